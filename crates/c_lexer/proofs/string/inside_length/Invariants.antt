@@ -1,0 +1,7 @@
+use Rattle.std.proofs.Common.{◌≡◌, ◌+◌, drop}
+use Rattle.std.specs.List.{prefix_len}
+use Rattle.c_lexer.specs.Spelling.{is_string_byte}
+use Rattle.c_lexer.proofs.string.inside_length.Given as goal
+
+abbrev pub invariant-loop-index : goal.invariant-loop-index
+invariant-loop-index l = l.index + prefix_len is_string_byte (drop l.index l.bytes) ≡ prefix_len is_string_byte l.bytes

@@ -1,0 +1,4 @@
+pub mod Block
+pub mod Function
+pub mod Literal
+pub mod WellFormed

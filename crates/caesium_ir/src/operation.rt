@@ -1,0 +1,18 @@
+use layouts::IntType;
+use rc_text::Place;
+
+/// What a block does before its end, one after another.
+#[derive(Clone, Copy, Debug, PartialEq, Eq, Hash)]
+pub enum Op {
+    /// Puts a number of the type on the row.
+    Const { of: IntType, value: i128 },
+    /// Puts a value of this many bytes on the row, each of them poison.
+    Poison { size: u32 },
+}
+
+/// An operation, and the place in the source that it comes from.
+#[derive(Clone, Copy, Debug, PartialEq, Eq, Hash)]
+pub struct PlacedOp {
+    pub op: Op,
+    pub place: Place,
+}

@@ -1,0 +1,32 @@
+ghost use Rattle.std.specs.Prelude.{◌≡◌};
+ghost use Rattle.std.specs.Option.{option_copied};
+ghost use Rattle.caesium_ir.specs.Function.{function_named};
+
+use crate::function::Function;
+use crate::functions::Functions;
+
+/// A program: its functions in order.
+#[derive(Debug, Drop)]
+pub struct Program {
+    pub functions: Functions,
+}
+
+impl Program {
+    /// The first function of the name.
+    pub fn function(&self, name: &str) -> Option<&Function>
+        ensures { option_copied result ≡ function_named self.now.functions name.now }
+    {
+        first_named(self.functions.as_slice(), name)
+    }
+}
+
+fn first_named<'a>(functions: &'a [Function], name: &str) -> Option<&'a Function>
+    ensures { option_copied result ≡ function_named functions.now name.now }
+{
+    for function in functions {
+        if function.name.as_str() == name {
+            return Some(function);
+        }
+    }
+    None
+}

@@ -1,0 +1,9 @@
+pub mod Faults
+pub mod Got
+pub mod Lines
+pub mod MemoryShelf
+pub mod Places
+pub mod ReadWhole
+pub mod Shelf
+pub mod Sink
+pub mod WriteWhole

@@ -1,0 +1,15 @@
+ghost use Rattle.std.specs.Prelude.{◌≡◌, ◌↔◌, IsTrue, Contains};
+ghost use Rattle.rc_text.specs.Faults.{one_more};
+
+/// How many bytes a call on a shelf or a sink in memory takes at most.
+pub const LARGEST_PIECE: usize = 16;
+
+/// Counts a call, and says whether its number is among those that fail.
+pub(crate) fn count_call(calls: &mut u64, failing: &[u64]) -> bool
+    ensures fails { IsTrue result ↔ Contains failing.now calls.old }
+    ensures counted { calls.new ≡ one_more calls.old }
+{
+    let fails = failing.contains(calls);
+    *calls = calls.saturating_add(1);
+    fails
+}

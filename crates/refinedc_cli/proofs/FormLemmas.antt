@@ -1,0 +1,170 @@
+-- What the tokens of the form have at their places.
+use Rattle.std.proofs.Common.{◌≡◌, ℕ, zero, suc, ◌<◌, ◌^◌, List, [], ◌∷◌, length, map, Bool, Option, Some, None, refl, sym, ap, ◌∙◌, subst, arith, get_or, true, false, ◌++◌, ◌&&◌}
+use Rattle.std.specs.Prelude.{IsTrue, codes}
+use Rattle.std.specs.Fmt.{decimal}
+use Rattle.std.proofs.lemmas.Fmt.{decimal_injective}
+use Rattle.std.specs.List.{slice_get}
+use Rattle.std.specs.Str.{bytes_eq}
+use Rattle.std.proofs.lemmas.Slice.Eq.{bytes_eq-Decides}
+use Rattle.std.proofs.lemmas.Option.{slice_get_read}
+use Rattle.std.proofs.lemmas.List.{length-map, append_cancel_right}
+use Rattle.rc_text.specs.declared.place.Place.{Place}
+use Rattle.c_lexer.specs.declared.token.Token.{Token}
+use Rattle.c_lexer.specs.declared.token.IntegerConstant.{IntegerConstant}
+use Rattle.c_lexer.specs.declared.token.TokenKind.{TokenKind}
+use Rattle.c_lexer.specs.declared.token.TokenKind.TheVariants.{Identifier, Integer}
+use Rattle.refinedc_cli.specs.declared.one_literal.OneLiteral.{OneLiteral}
+use Rattle.c_lexer.specs.Tokens.{AreTokensOf, TokensAfter}
+use Rattle.c_lexer.specs.Spelling.{Spells, is_letter, is_word, is_word_byte}
+use Rattle.std.specs.List.{list_all}
+use Rattle.std.specs.Str.{IsAscii, IsUtf8}
+use Rattle.std.proofs.lemmas.Str.{IsUtf8-from_ascii}
+use Rattle.std.proofs.lemmas.Bool.Decides.{nat_tests}
+use Rattle.refinedc_cli.specs.declared.file.Checked.{Checked}
+use Rattle.refinedc_cli.specs.Checked.{AreSpelled, IsRead, IsCheckedFile, form_of}
+use Rattle.refinedc_cli.specs.Answer.{IsFormOf}
+use Rattle.refinedc_cli.specs.OneLiteral.{form_kinds, declaration, IsSpelledAt, StandsAt, IsOneLiteral}
+
+-- the token of a kind that stands at a place
+pub token_of_kind : (tokens : List Token) (i : ℕ) (kind : TokenKind) → slice_get (map (λ token. token.kind) tokens) i ≡ Some kind
+    → (token : Token) × (slice_get tokens i ≡ Some token) × (token.kind ≡ kind)
+token_of_kind [] i kind there = absurd (cc)
+token_of_kind (token ∷ tokens) zero kind there = (token, refl, cc)
+token_of_kind (token ∷ tokens) (suc i) kind there = token_of_kind tokens i kind there
+
+-- the form's constant stands behind `return`
+pub constant_of_form : (tokens : List Token) (form : OneLiteral) → IsOneLiteral tokens form
+    → (token : Token) × (slice_get tokens 17 ≡ Some token) × (token.kind ≡ Integer (record { value = form.returned }))
+constant_of_form tokens form is = token_of_kind tokens 17 (Integer (record { value = form.returned })) (rw is.kinds refl)
+
+-- and is the one that was read there
+pub kinds_of_form : (tokens : List Token) (form : OneLiteral) (token : Token) (constant : IntegerConstant) → slice_get tokens 17 ≡ Some token
+    → token.kind ≡ Integer constant → IsOneLiteral tokens form → map (λ token. token.kind) tokens ≡ form_kinds constant.value
+kinds_of_form tokens form token constant there kind is =
+    let found = constant_of_form tokens form is in
+    let same : Integer (record { value = form.returned }) ≡ Integer constant = cc (found.1, found.2) in
+    let inside : ◌≡◌ {A = IntegerConstant} (record { value = form.returned }) constant = cc in
+    is.kinds ∙ ap (λ (c : IntegerConstant). form_kinds c.value) inside
+
+-- the form has twenty tokens
+pub length_of_form : (tokens : List Token) (returned : ℕ) → map (λ token. token.kind) tokens ≡ form_kinds returned → 20 ≡ length tokens
+length_of_form tokens returned kinds = sym (simp length-map at (ap length kinds))
+
+-- a test of a token's text says whether it is spelled so
+pub spelled_by_test : (tokens : List Token) (i : ℕ) (token : Token) (read text : List ℕ) (same : Bool) → slice_get tokens i ≡ Some token
+    → read ≡ token.text → same ≡ bytes_eq read text → (IsTrue same → IsSpelledAt tokens i text) × (IsSpelledAt tokens i text → IsTrue same)
+spelled_by_test tokens i token read text same there is_text tested = (
+  λ true. (token, there, sym is_text ∙ (bytes_eq-Decides read text).0 (sym tested ∙ true)),
+  λ spelled.
+      let found : spelled.0 ≡ token = cc (spelled.1, there) in
+      let equal : read ≡ text = is_text ∙ ap (λ (t : Token). t.text) (sym found) ∙ spelled.2 in
+      tested ∙ (bytes_eq-Decides read text).1 equal,
+)
+
+-- the string of the form declares its value
+pub declaration_of_form : (tokens : List Token) (form : OneLiteral) (token : Token) → slice_get tokens 6 ≡ Some token → IsOneLiteral tokens form
+    → token.text ≡ declaration form.declared
+declaration_of_form tokens form token there is =
+    let found : is.declares.0 ≡ token = cc (is.declares.1, there) in
+    ap (λ (t : Token). t.text) (sym found) ∙ is.declares.2
+
+-- a token that was read stands at its place
+pub stands_there : (tokens : List Token) (i : ℕ) (token : Token) → 20 ≡ length tokens → i < 20 → token ≡ get_or tokens i token → StandsAt tokens i (get_or tokens i token).place
+stands_there tokens i token long inside read = (token, slice_get_read tokens 20 i token long inside read, ap (λ (t : Token). t.place) read)
+
+same_form : (a b : OneLiteral) → a.declared ≡ b.declared → a.returned ≡ b.returned → a.places.name ≡ b.places.name → a.places.body ≡ b.places.body
+    → a.places.return_ ≡ b.places.return_ → a.places.literal ≡ b.places.literal → a ≡ b
+same_form a b declared returned name body return_ literal = λ i.
+    record { declared = declared i; returned = returned i; places = record { name = name i; body = body i; return_ = return_ i; literal = literal i } }
+
+-- a place of a list has one token, and so one place
+same_place : (tokens : List Token) (i : ℕ) (p q : Place) → StandsAt tokens i p → StandsAt tokens i q → p ≡ q
+same_place tokens i p q a b =
+    let found : a.0 ≡ b.0 = cc (a.1, b.1) in
+    sym a.2 ∙ ap (λ (t : Token). t.place) found ∙ b.2
+
+-- a declaration has one value
+same_declared : (j k : ℕ) → j < 2 ^ 31 → k < 2 ^ 31 → declaration j ≡ declaration k → j ≡ k
+same_declared j k small_j small_k same =
+    let digits : decimal j ≡ decimal k = append_cancel_right (decimal j) (decimal k) (codes " @ int<i32>\"") (cc same) in
+    decimal_injective j k (omega arith) (omega arith) digits
+
+-- the tokens of the form have one reading
+pub form_unique : (tokens : List Token) (a b : OneLiteral) → IsOneLiteral tokens a → IsOneLiteral tokens b → a ≡ b
+form_unique tokens a b is_a is_b =
+    let constant_a = constant_of_form tokens a is_a in
+    let constant_b = constant_of_form tokens b is_b in
+    let same : Integer (record { value = a.returned }) ≡ Integer (record { value = b.returned }) = cc (constant_a.1, constant_a.2, constant_b.1, constant_b.2) in
+    let constants : ◌≡◌ {A = IntegerConstant} (record { value = a.returned }) (record { value = b.returned }) = cc same in
+    let words : declaration a.declared ≡ declaration b.declared =
+    sym is_a.declares.2 ∙ declaration_of_form tokens b is_a.declares.0 is_a.declares.1 is_b in
+    same_form a b (same_declared a.declared b.declared is_a.in_range is_b.in_range words) (ap (λ (c : IntegerConstant). c.value) constants)
+    (same_place tokens 11 a.places.name b.places.name is_a.name_place is_b.name_place) (same_place tokens 15 a.places.body b.places.body is_a.body_place is_b.body_place)
+    (same_place tokens 16 a.places.return_ b.places.return_ is_a.return_place is_b.return_place) (same_place tokens 17 a.places.literal b.places.literal is_a.literal_place is_b.literal_place)
+
+-- what the tokens of a file are read as is what the file is read as
+pub checked_of_file : (bytes : List ℕ) (tokens : List Token) (found : Option Checked) → AreTokensOf bytes tokens → ((others : List Token) → AreTokensOf bytes others → tokens ≡ others)
+    → IsRead tokens found → IsCheckedFile bytes found
+checked_of_file bytes tokens None are only read =
+    λ form file. read form (subst (λ (t : List Token). IsOneLiteral t form) (sym (only file.0 file.1)) file.2)
+checked_of_file bytes tokens (Some checked) are only read = (
+  (
+    (tokens, are, read.0),
+    λ other file. form_unique tokens other checked.form (subst (λ (t : List Token). IsOneLiteral t other) (sym (only file.0 file.1)) file.2) read.0,
+  ),
+  read.1,
+  record { tokens = tokens; read = are; is = read.0; named = read.2; built = read.3 },
+)
+
+-- the tokens of a file have spellings
+pub tokens_are_spelled : (before bytes : List ℕ) (tokens : List Token) → TokensAfter before bytes tokens → AreSpelled tokens
+tokens_are_spelled before bytes [] are i token there = absurd (cc there)
+tokens_are_spelled before bytes (first ∷ tokens) are zero token there =
+    let same : first ≡ token = cc there in
+    subst (λ (t : Token). Spells t.kind t.text) same are.4.spelled
+tokens_are_spelled before bytes (first ∷ tokens) are (suc i) token there =
+    tokens_are_spelled (before ++ are.0 ++ first.text) are.1 tokens are.6 i token there
+
+-- the form names its function
+pub name_of_form : (tokens : List Token) (form : OneLiteral) → IsOneLiteral tokens form → (token : Token) × (slice_get tokens 11 ≡ Some token)
+name_of_form tokens form is = (is.name_place.0, is.name_place.1)
+
+-- the form of what the file is read as is the file's
+pub form_of_checked : (bytes : List ℕ) (found : Option Checked) → IsCheckedFile bytes found → IsFormOf bytes (form_of found)
+form_of_checked bytes None is = is
+form_of_checked bytes (Some checked) is = is.0
+
+both : (a b : Bool) → (a && b) ≡ true → (a ≡ true) × (b ≡ true)
+both true b h = (refl, h)
+both false b h = absurd (cc h)
+
+letter_is_ascii : (b : ℕ) → is_letter b ≡ true → b < 128
+letter_is_ascii b is = grind (arith, nat_tests)
+
+word_byte_is_ascii : (b : ℕ) → is_word_byte b ≡ true → b < 128
+word_byte_is_ascii b is = grind (arith, nat_tests)
+
+word_bytes_are_ascii : (bytes : List ℕ) → list_all is_word_byte bytes ≡ true → IsAscii bytes
+word_bytes_are_ascii [] all i = omega arith
+word_bytes_are_ascii (b ∷ bytes) all zero = word_byte_is_ascii b (both (is_word_byte b) (list_all is_word_byte bytes) all).0
+word_bytes_are_ascii (b ∷ bytes) all (suc i) = word_bytes_are_ascii bytes (both (is_word_byte b) (list_all is_word_byte bytes) all).1 i
+
+word_is_ascii : (bytes : List ℕ) → is_word bytes ≡ true → IsAscii bytes
+word_is_ascii [] is i = omega arith
+word_is_ascii (b ∷ bytes) is zero = letter_is_ascii b (both (is_letter b) (list_all is_word_byte bytes) is).0
+word_is_ascii (b ∷ bytes) is (suc i) = word_bytes_are_ascii bytes (both (is_letter b) (list_all is_word_byte bytes) is).1 i
+
+-- the function's name is text
+pub name_is_text : (tokens : List Token) (form : OneLiteral) (token : Token) → AreSpelled tokens → IsOneLiteral tokens form → slice_get tokens 11 ≡ Some token → IsUtf8 token.text
+name_is_text tokens form token spelled is there =
+    let found = token_of_kind tokens 11 Identifier (rw is.kinds refl) in
+    let same : found.0 ≡ token = cc (found.1, there) in
+    let kind : token.kind ≡ Identifier = ap (λ (t : Token). t.kind) (sym same) ∙ found.2 in
+    let word = subst (λ (k : TokenKind). Spells k token.text) kind (spelled 11 token there) in
+    IsUtf8-from_ascii token.text (word_is_ascii token.text word.0)
+
+-- the literal is in range
+pub returned_in_range : (tokens : List Token) (form : OneLiteral) → AreSpelled tokens → IsOneLiteral tokens form → form.returned < 2 ^ 31
+returned_in_range tokens form spelled is =
+    let found = constant_of_form tokens form is in
+    (subst (λ (k : TokenKind). Spells k found.0.text) found.2 (spelled 17 found.0 found.1)).0

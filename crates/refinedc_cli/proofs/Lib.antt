@@ -1,0 +1,5 @@
+pub mod AnswerLemmas
+pub mod FormLemmas
+pub mod ListLemmas
+pub mod RunLemmas
+pub mod TextLemmas

@@ -1,0 +1,4 @@
+pub mod Accesses
+pub mod Determined
+pub mod LiteralThreads
+pub mod ThreadLists

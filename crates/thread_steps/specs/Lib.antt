@@ -1,0 +1,10 @@
+pub mod Access
+pub mod Config
+pub mod FindNext
+pub mod Frame
+pub mod Next
+pub mod Run
+pub mod Soundness
+pub mod Step
+pub mod StepEnds
+pub mod Thread
