@@ -1,3 +1,5 @@
+// Each row runs with ample memory, and the status that it wants is another than want of memory.
+
 use crate::status::Status;
 use crate::top_call::run;
 use rc_text::{Bytes, MemoryShelf, MemorySink, NoMemory, Text};
