@@ -1,42 +1,157 @@
 -- What a scan finds is the token that begins the bytes.
-use Rattle.std.proofs.Common.{◌≡◌, ◌≢◌, ℕ, suc, ◌+◌, ◌<◌, ◌≤◌, ◌^◌, Bool, true, false, List, [], ◌∷◌, ◌++◌, length, get_or, take, drop, Some, None, sym, refl, ap, ◌∙◌, subst, inl, inr, ⊎_elim, arith}
-use Rattle.std.specs.List.{list_all, prefix_len, slice_get}
-use Rattle.std.specs.Fmt.{decimal}
-use Rattle.std.proofs.lemmas.Bool.{and_from, and_parts, false≢true, cases_lt}
-use Rattle.std.proofs.lemmas.List.{length-append, length-take-le, take-append-drop, take_at, get_or-take, take_more, drop_more, get_or_at, append_assoc}
+use Rattle.std.proofs.Common.{◌≡◌, ℕ, ◌<◌, ◌≤◌, Bool, true, false, not, ◌&&◌, ◌||◌, eqb, ltb, List, [], ◌∷◌, ◌++◌, length, get_or, take, drop, sym, refl, ap, ◌∙◌, subst, inl, inr, ⊎_elim, arith, ◌⊎◌}
+use Rattle.std.specs.List.{list_all, prefix_len}
+use Rattle.std.proofs.lemmas.Bool.{and_from, and_parts, false≢true, cases_lt, ltb-true, eqb-true, not-true}
+use Rattle.std.proofs.lemmas.Bool.Decides.{nat_tests}
+use Rattle.std.proofs.lemmas.List.{length-take-le, take-append-drop, get_or-take, take-append-le}
+use Rattle.std.proofs.lemmas.List.Prefix.{front_reads}
 use Rattle.std.proofs.lemmas.List.Sums.{prefix_len-le-length, prefix_len_stops}
 use Rattle.c_lexer.specs.declared.punctuator.Punctuator.{Punctuator}
+use Rattle.c_lexer.specs.declared.token.CharacterConstant.{CharacterConstant}
+use Rattle.c_lexer.specs.declared.token.IntegerConstant.{IntegerConstant}
 use Rattle.c_lexer.specs.declared.token.TokenKind.{TokenKind}
 use Rattle.c_lexer.specs.declared.token.TokenKind.TheVariants as kinds
+use Rattle.c_lexer.specs.Bytes.{is_letter, is_digit, is_word_byte, is_blank}
 use Rattle.c_lexer.specs.Punctuator.{punctuator_text}
-use Rattle.c_lexer.specs.Spelling.{is_letter, is_digit, is_word_byte, is_word, is_number_word, is_string_byte, IsString, Spells, IsLexeme}
+use Rattle.c_lexer.specs.Integers.{IsInteger}
+use Rattle.c_lexer.specs.Floating.{IsFloating}
+use Rattle.c_lexer.specs.Spelling.{is_word, IsNumberLike, IsString, IsCharacter, Spells, IsLexeme}
 use Rattle.c_lexer.specs.Tokens.{Begins}
-use Rattle.c_lexer.specs.Scanning.{NoTokenBegins, IsScanned}
-use Rattle.c_lexer.proofs.Lists.{same_fronts, first_of_front, length-le-prefix_len, prefix_len_at, list_all-take_prefix}
-use Rattle.c_lexer.proofs.Lexemes.{class_of_byte, class_of_kind, letter_is_word_byte, digit_is_word_byte, looks, word_or_not, lexeme_is, string_by_class, integer_by_class, punctuator_by_class, same_punctuator, class_of_first_digit}
+use Rattle.c_lexer.specs.Scanning.{IsLongest, begins_number, begins_comment}
+use Rattle.c_lexer.proofs.Keywords.{is_word-keyword_text}
+use Rattle.c_lexer.proofs.Punctuators.{punctuator_looks}
+use Rattle.c_lexer.proofs.Lists.{first_of_front, length-le-prefix_len, list_all-take_prefix}
+use Rattle.c_lexer.proofs.Classes.{class_of_text}
+use Rattle.c_lexer.proofs.Lexemes.{letter_is_word_byte, is_word_bytes, is_word_first, is_number_word_first, looks_integer, integer_number_like, class_of_kind, class_is, class_of_letter, class_of_number, digit_begins, floating_begins, or_parts}
 
 -- the front of some bytes, as long as n
-module _ (bytes : List ℕ) (n : ℕ) (inside : n ≤ length bytes) (kind : TokenKind) where
-  pub scanned : Spells kind (take n bytes) → ((other others : List ℕ) → bytes ≡ other ++ others → IsLexeme other → length other ≤ n) → (n ≤ length bytes) × Begins bytes kind (take n bytes) (drop n bytes)
-  scanned spelled longest = (
-    inside,
-    record {
-      front = sym (take-append-drop n bytes);
-      spelled = spelled;
-      longest = λ other others split lexeme. subst (λ m. length other ≤ m) (sym (length-take-le n bytes inside)) (longest other others split lexeme);
-    },
-  )
+pub scanned : (bytes : List ℕ) (n : ℕ) → n ≤ length bytes → (kind : TokenKind) → Spells kind (take n bytes) → ((other others : List ℕ) → bytes ≡ other ++ others → IsLexeme other → length other ≤ n)
+    → (n ≤ length bytes) × Begins bytes kind (take n bytes) (drop n bytes)
+scanned bytes n inside kind spelled longest = (
+  inside,
+  record {
+    front = sym (take-append-drop n bytes);
+    spelled = spelled;
+    longest = λ other others split lexeme. subst (λ m. length other ≤ m) (sym (length-take-le n bytes inside)) (longest other others split lexeme);
+  },
+)
 
--- no token begins no bytes
-no_token_begins : (bytes : List ℕ) → length bytes ≡ 0 → NoTokenBegins bytes
-no_token_begins bytes none kind spelling rest begins =
-    omega (arith, (looks kind spelling begins.spelled).some, ap length begins.front, length-append spelling rest)
+-- what a lexeme is, by its class
+pub data View (text : List ℕ) : Type 0 where
+  OfKind : (kind : TokenKind) → Spells kind text → class_of_text text ≡ class_of_kind kind → View text
+  OfNumber : IsNumberLike text → class_of_text text ≡ 1 → View text
+  OfComment : begins_comment text ≡ true → length text ≡ 2 → class_of_text text ≡ 4 → View text
 
-pub no_token_begins_none : (bytes : List ℕ) → None ≡ slice_get bytes 0 → NoTokenBegins bytes
-no_token_begins_none [] none = no_token_begins [] refl
-no_token_begins_none (b ∷ bs) none = absurd (cc)
+pub view : (text : List ℕ) → IsLexeme text → View text
+view text (inl spelled) = OfKind spelled.0 spelled.1 (class_is spelled.0 text spelled.1)
+view text (inr (inl number)) = OfNumber number (class_of_number text (digit_begins text (is_number_word_first text number.0)))
+view text (inr (inr (inl block))) = OfComment (ap begins_comment block) (ap length block) (ap class_of_text block)
+view text (inr (inr (inr line))) = OfComment (ap begins_comment line) (ap length line) (ap class_of_text line)
 
-prefix_some : (p : ℕ → Bool) (bytes : List ℕ) → 0 < length bytes → p (get_or bytes 0 0) ≡ true → 0 < prefix_len p bytes
+-- the kinds of each class
+pub word_by_class : (kind : TokenKind) (text : List ℕ) → Spells kind text → class_of_kind kind ≡ 0 → list_all is_word_byte text ≡ true
+word_by_class kinds.Identifier text spelled class = is_word_bytes text spelled.0
+word_by_class (kinds.Keyword keyword) text spelled class = is_word_bytes text (ap is_word spelled ∙ is_word-keyword_text keyword)
+word_by_class (kinds.Integer constant) text spelled class = absurd (omega arith)
+word_by_class kinds.Floating text spelled class = absurd (omega arith)
+word_by_class (kinds.Character constant) text spelled class = absurd (omega arith)
+word_by_class kinds.StringLiteral text spelled class = absurd (omega arith)
+word_by_class (kinds.Punctuator punctuator) text spelled class = absurd (omega arith)
+word_by_class kinds.NullPointer text spelled class = absurd (omega arith)
+
+pub number_by_class : (kind : TokenKind) (text : List ℕ) → Spells kind text → class_of_kind kind ≡ 1 → ((constant : IntegerConstant) × IsInteger constant text) ⊎ IsFloating text
+number_by_class kinds.Identifier text spelled class = absurd (omega arith)
+number_by_class (kinds.Keyword keyword) text spelled class = absurd (omega arith)
+number_by_class (kinds.Integer constant) text spelled class = inl (constant, spelled)
+number_by_class kinds.Floating text spelled class = inr spelled
+number_by_class (kinds.Character constant) text spelled class = absurd (omega arith)
+number_by_class kinds.StringLiteral text spelled class = absurd (omega arith)
+number_by_class (kinds.Punctuator punctuator) text spelled class = absurd (omega arith)
+number_by_class kinds.NullPointer text spelled class = absurd (omega arith)
+
+pub string_by_class : (kind : TokenKind) (text : List ℕ) → Spells kind text → class_of_kind kind ≡ 2 → IsString text
+string_by_class kinds.Identifier text spelled class = absurd (omega arith)
+string_by_class (kinds.Keyword keyword) text spelled class = absurd (omega arith)
+string_by_class (kinds.Integer constant) text spelled class = absurd (omega arith)
+string_by_class kinds.Floating text spelled class = absurd (omega arith)
+string_by_class (kinds.Character constant) text spelled class = absurd (omega arith)
+string_by_class kinds.StringLiteral text spelled class = spelled
+string_by_class (kinds.Punctuator punctuator) text spelled class = absurd (omega arith)
+string_by_class kinds.NullPointer text spelled class = absurd (omega arith)
+
+pub character_by_class : (kind : TokenKind) (text : List ℕ) → Spells kind text → class_of_kind kind ≡ 3 → (constant : CharacterConstant) × IsCharacter constant text
+character_by_class kinds.Identifier text spelled class = absurd (omega arith)
+character_by_class (kinds.Keyword keyword) text spelled class = absurd (omega arith)
+character_by_class (kinds.Integer constant) text spelled class = absurd (omega arith)
+character_by_class kinds.Floating text spelled class = absurd (omega arith)
+character_by_class (kinds.Character constant) text spelled class = (constant, spelled)
+character_by_class kinds.StringLiteral text spelled class = absurd (omega arith)
+character_by_class (kinds.Punctuator punctuator) text spelled class = absurd (omega arith)
+character_by_class kinds.NullPointer text spelled class = absurd (omega arith)
+
+pub punctuator_by_class : (kind : TokenKind) (text : List ℕ) → Spells kind text → class_of_kind kind ≡ 4 → (punctuator : Punctuator) × (text ≡ punctuator_text punctuator)
+punctuator_by_class kinds.Identifier text spelled class = absurd (omega arith)
+punctuator_by_class (kinds.Keyword keyword) text spelled class = absurd (omega arith)
+punctuator_by_class (kinds.Integer constant) text spelled class = absurd (omega arith)
+punctuator_by_class kinds.Floating text spelled class = absurd (omega arith)
+punctuator_by_class (kinds.Character constant) text spelled class = absurd (omega arith)
+punctuator_by_class kinds.StringLiteral text spelled class = absurd (omega arith)
+punctuator_by_class (kinds.Punctuator punctuator) text spelled class = (punctuator, spelled)
+punctuator_by_class kinds.NullPointer text spelled class = absurd (omega arith)
+
+-- a token has a byte at least, and begins with no blank
+pub record LooksToken (text : List ℕ) : Type 0 where
+  pub some : 0 < length text
+  pub no_blank : is_blank (get_or text 0 0) ≡ false
+
+some_by_first : (p : ℕ → Bool) (text : List ℕ) → p 0 ≡ false → p (get_or text 0 0) ≡ true → 0 < length text
+some_by_first p [] fails passes = absurd (false≢true (sym fails ∙ passes))
+some_by_first p (b ∷ bs) fails passes = omega arith
+
+letter_no_blank : (b : ℕ) → is_letter b ≡ true → is_blank b ≡ false
+letter_no_blank b letter = grind (arith, nat_tests)
+
+number_no_blank : (a b : ℕ) → (is_digit a || (eqb a 46 && is_digit b)) ≡ true → is_blank a ≡ false
+number_no_blank a b number = grind (arith, nat_tests)
+
+looks_word : (text : List ℕ) → is_word text ≡ true → LooksToken text
+looks_word text word = record { some = some_by_first is_letter text refl (is_word_first text word); no_blank = letter_no_blank (get_or text 0 0) (is_word_first text word) }
+
+pub some_number : (text : List ℕ) → begins_number text ≡ true → 0 < length text
+some_number [] number = absurd (false≢true number)
+some_number (b ∷ bs) number = omega arith
+
+looks_number : (text : List ℕ) → begins_number text ≡ true → LooksToken text
+looks_number text number = record { some = some_number text number; no_blank = number_no_blank (get_or text 0 0) (get_or text 1 0) number }
+
+looks_character : (constant : CharacterConstant) (text : List ℕ) → IsCharacter constant text → LooksToken text
+looks_character constant text (inl plain) = subst LooksToken (sym plain.1) (record { some = omega arith; no_blank = refl })
+looks_character constant text (inr escaped) = subst LooksToken (sym escaped.2) (record { some = omega arith; no_blank = refl })
+
+looks_punctuator : (punctuator : Punctuator) → LooksToken (punctuator_text punctuator)
+looks_punctuator punctuator =
+    let text = punctuator_text punctuator in
+    let looks = punctuator_looks punctuator in
+    let a = and_parts (ltb 0 (length text) && not (is_word_byte (get_or text 0 0)) && not (eqb (get_or text 0 0) 34) && not (eqb (get_or text 0 0) 39) && not (is_blank (get_or text 0 0))) _ looks in
+    let b = and_parts (ltb 0 (length text) && not (is_word_byte (get_or text 0 0)) && not (eqb (get_or text 0 0) 34) && not (eqb (get_or text 0 0) 39)) _ a.0 in
+    let c = and_parts (ltb 0 (length text) && not (is_word_byte (get_or text 0 0)) && not (eqb (get_or text 0 0) 34)) _ b.0 in
+    let d = and_parts (ltb 0 (length text) && not (is_word_byte (get_or text 0 0))) _ c.0 in
+    let e = and_parts (ltb 0 (length text)) _ d.0 in
+    record { some = ltb-true 0 (length text) e.0; no_blank = not-true (is_blank (get_or text 0 0)) b.1 }
+
+pub looks_token : (kind : TokenKind) (text : List ℕ) → Spells kind text → LooksToken text
+looks_token kinds.Identifier text spelled = looks_word text spelled.0
+looks_token (kinds.Keyword keyword) text spelled = looks_word text (ap is_word spelled ∙ is_word-keyword_text keyword)
+looks_token (kinds.Integer constant) text spelled = looks_number text (digit_begins text (looks_integer constant text spelled).first)
+looks_token kinds.Floating text spelled = looks_number text (floating_begins text spelled)
+looks_token (kinds.Character constant) text spelled = looks_character constant text spelled
+looks_token kinds.StringLiteral text spelled = subst LooksToken (sym spelled.2) (record { some = omega arith; no_blank = refl })
+looks_token (kinds.Punctuator punctuator) text spelled = subst LooksToken (sym spelled) (looks_punctuator punctuator)
+looks_token kinds.NullPointer text spelled = absurd spelled
+
+-- ---- words
+
+pub prefix_some : (p : ℕ → Bool) (bytes : List ℕ) → 0 < length bytes → p (get_or bytes 0 0) ≡ true → 0 < prefix_len p bytes
 prefix_some p bytes some passes =
     ⊎_elim (λ positive. positive)
     (λ none.
@@ -45,160 +160,93 @@ prefix_some p bytes some passes =
     absurd (false≢true (sym stops ∙ ap (λ n. p (get_or bytes n 0)) zero ∙ passes)))
     (cases_lt 0 (prefix_len p bytes))
 
-word_from_parts : (word : List ℕ) → 0 < length word → is_letter (get_or word 0 0) ≡ true → list_all is_word_byte word ≡ true → is_word word ≡ true
+word_lexeme : (text : List ℕ) → class_of_text text ≡ 0 → IsLexeme text → list_all is_word_byte text ≡ true
+word_lexeme text class lexeme =
+    elim (view text lexeme) [
+      | OfKind kind spelled is ↦ word_by_class kind text spelled (sym is ∙ class)
+      | OfNumber number is ↦ absurd (omega arith)
+      | OfComment begins size is ↦ absurd (omega arith)
+    ]
+
+pub record WordFront (bytes : List ℕ) (n : ℕ) : Type 0 where
+  pub inside : n ≤ length bytes
+  pub all : list_all is_word_byte (take n bytes) ≡ true
+
+pub word_front : (bytes : List ℕ) (n : ℕ) → n ≡ prefix_len is_word_byte bytes → WordFront bytes n
+word_front bytes n size = record {
+  inside = omega (arith, size, prefix_len-le-length is_word_byte bytes);
+  all = ap (λ m. list_all is_word_byte (take m bytes)) size ∙ list_all-take_prefix is_word_byte bytes;
+}
+
+word_from_parts : (text : List ℕ) → 0 < length text → is_letter (get_or text 0 0) ≡ true → list_all is_word_byte text ≡ true → is_word text ≡ true
 word_from_parts [] some letter all = absurd (omega arith)
 word_from_parts (b ∷ bs) some letter all = and_from (is_letter b) (list_all is_word_byte bs) letter (and_parts (is_word_byte b) (list_all is_word_byte bs) all).1
 
-number_word_from_parts : (word : List ℕ) → 0 < length word → is_digit (get_or word 0 0) ≡ true → list_all is_word_byte word ≡ true → is_number_word word ≡ true
-number_word_from_parts [] some digit all = absurd (omega arith)
-number_word_from_parts (b ∷ bs) some digit all = and_from (is_digit b) (list_all is_word_byte bs) digit (and_parts (is_word_byte b) (list_all is_word_byte bs) all).1
+pub word_at_front : (bytes : List ℕ) (n : ℕ) → n ≡ prefix_len is_word_byte bytes → 0 < length bytes → is_letter (get_or bytes 0 0) ≡ true → is_word (take n bytes) ≡ true
+word_at_front bytes n size some letter =
+    let positive = prefix_some is_word_byte bytes some (letter_is_word_byte (get_or bytes 0 0) letter) in
+    let front = word_front bytes n size in
+    word_from_parts (take n bytes) (omega (arith, size, length-take-le n bytes front.inside)) (ap is_letter (get_or-take n bytes 0 0 (omega (arith, size))) ∙ letter) front.all
 
-module _ (bytes : List ℕ) (n : ℕ) (length_is : n ≡ prefix_len is_word_byte bytes) where
-  pub word_inside : n ≤ length bytes
-  word_inside = omega (arith, prefix_len-le-length is_word_byte bytes)
-
-  all_word : list_all is_word_byte (take n bytes) ≡ true
-  all_word = ap (λ m. list_all is_word_byte (take m bytes)) length_is ∙ list_all-take_prefix is_word_byte bytes
-
-  some_word : 0 < length bytes → is_word_byte (get_or bytes 0 0) ≡ true → 0 < n
-  some_word some passes = omega (arith, prefix_some is_word_byte bytes some passes)
-
-  pub word_at_front : 0 < length bytes → is_letter (get_or bytes 0 0) ≡ true → is_word (take n bytes) ≡ true
-  word_at_front some letter =
-      let positive = some_word some (letter_is_word_byte (get_or bytes 0 0) letter) in
-      word_from_parts (take n bytes) (omega (arith, length-take-le n bytes word_inside)) (ap is_letter (get_or-take n bytes 0 0 positive) ∙ letter) all_word
-
-  number_word_at_front : 0 < length bytes → is_digit (get_or bytes 0 0) ≡ true → is_number_word (take n bytes) ≡ true
-  number_word_at_front some digit =
-      let positive = some_word some (digit_is_word_byte (get_or bytes 0 0) digit) in
-      number_word_from_parts (take n bytes) (omega (arith, length-take-le n bytes word_inside)) (ap is_digit (get_or-take n bytes 0 0 positive) ∙ digit) all_word
-
-  -- no lexeme is longer than the letters and digits
-  no_longer : is_word_byte (get_or bytes 0 0) ≡ true → (other others : List ℕ) → bytes ≡ other ++ others → IsLexeme other → length other ≤ n
-  no_longer word other others split lexeme =
-      ⊎_elim
-      (λ some.
-      ⊎_elim
-      (λ all. omega (arith, length-le-prefix_len is_word_byte bytes other others split all))
-      (λ no_word. absurd (false≢true (sym no_word ∙ ap is_word_byte (first_of_front bytes other others split some) ∙ word)))
-      (word_or_not other lexeme))
-      (λ none. omega arith)
-      (cases_lt 0 (length other))
-
-  pub word_scanned : (kind : TokenKind) → is_word_byte (get_or bytes 0 0) ≡ true → Spells kind (take n bytes) → (n ≤ length bytes) × Begins bytes kind (take n bytes) (drop n bytes)
-  word_scanned kind word spelled = scanned bytes n word_inside kind spelled (no_longer word)
-
-  -- what begins like a number and is none, is no token
-  pub no_number_begins : 0 < length bytes → is_digit (get_or bytes 0 0) ≡ true → ((value : ℕ) → value < 2 ^ 31 → take n bytes ≢ decimal value) → NoTokenBegins bytes
-  no_number_begins some digit no_decimal kind spelling rest begins =
-      let look = looks kind spelling begins.spelled in
-      let long = begins.longest (take n bytes) (drop n bytes) (sym (take-append-drop n bytes)) (inr (number_word_at_front some digit)) in
-      let short = no_longer (digit_is_word_byte (get_or bytes 0 0) digit) spelling rest begins.front (inl (kind, begins.spelled)) in
-      let lengths : length spelling ≡ length (take n bytes) = omega (arith, length-take-le n bytes word_inside) in
-      let same = same_fronts spelling rest (take n bytes) (drop n bytes) (sym begins.front ∙ sym (take-append-drop n bytes)) lengths in
-      let class : class_of_kind kind ≡ 1 = sym look.class ∙ ap class_of_byte (first_of_front bytes spelling rest begins.front look.some) ∙ class_of_first_digit (get_or bytes 0 0) digit in
-      let decimals = integer_by_class kind spelling begins.spelled class in
-      no_decimal decimals.0 decimals.1 (sym same.0 ∙ decimals.2)
-
--- the string behind a quote
-record ClosesAt (bytes other : List ℕ) : Type 0 where
-  pub size : length other ≡ prefix_len is_string_byte bytes + 2
-  pub closed : prefix_len is_string_byte bytes < length bytes
-  pub quote : get_or bytes (prefix_len is_string_byte bytes) 0 ≡ 34
-
-closes_at : (bytes other others : List ℕ) → 34 ∷ bytes ≡ other ++ others → IsString other → ClosesAt bytes other
-closes_at bytes other others split string =
-    let inside = string.0 in
-    let parts : bytes ≡ inside ++ (34 ∷ others) =
-    ap (drop 1) (split ∙ ap (λ l. l ++ others) string.2) ∙ append_assoc inside (34 ∷ []) others in
-    let closing = prefix_len_at is_string_byte bytes inside (34 ∷ others) parts string.1 refl in
-    record {
-      size = omega (arith, closing, ap length string.2, length-append inside (34 ∷ []));
-      closed = omega (arith, closing, ap length parts, length-append inside (34 ∷ others));
-      quote = ap (λ l. get_or l (prefix_len is_string_byte bytes) 0) parts ∙ get_or_at inside 34 others 0 (prefix_len is_string_byte bytes) (sym closing);
-    }
-
--- a lexeme that begins with a quote is a string
-quoted_lexeme : (bytes other others : List ℕ) → 34 ∷ bytes ≡ other ++ others → 0 < length other → IsLexeme other → IsString other
-quoted_lexeme bytes other others split some lexeme =
-    let first = first_of_front (34 ∷ bytes) other others split some in
+pub word_longest : (bytes : List ℕ) (n : ℕ) → n ≡ prefix_len is_word_byte bytes → is_letter (get_or bytes 0 0) ≡ true → (other others : List ℕ) → bytes ≡ other ++ others → IsLexeme other → length other ≤ n
+word_longest bytes n size letter other others split lexeme =
     ⊎_elim
-    (λ spelled. string_by_class spelled.0 other spelled.1 (spelled.2 ∙ ap class_of_byte first))
-    (λ number. let two : class_of_byte (get_or other 0 0) ≡ 2 = ap class_of_byte first in absurd (omega arith))
-    (lexeme_is other lexeme)
-
-string_longest : (bytes other others : List ℕ) → 34 ∷ bytes ≡ other ++ others → IsLexeme other → length other ≤ prefix_len is_string_byte bytes + 2
-string_longest bytes other others split lexeme =
-    ⊎_elim
-    (λ some. omega (arith, (closes_at bytes other others split (quoted_lexeme bytes other others split some lexeme)).size))
+    (λ some.
+    let class = class_of_letter other (ap is_letter (first_of_front bytes other others split some) ∙ letter) in
+    omega (arith, size, length-le-prefix_len is_word_byte bytes other others split (word_lexeme other class lexeme)))
     (λ none. omega arith)
     (cases_lt 0 (length other))
 
-string_spelled : (bytes : List ℕ) (n : ℕ) → n ≡ prefix_len is_string_byte bytes + 2 → prefix_len is_string_byte bytes < length bytes → get_or bytes (prefix_len is_string_byte bytes) 0 ≡ 34 → IsString (take n (34 ∷ bytes))
-string_spelled bytes n size closed quote =
-    let m = prefix_len is_string_byte bytes in
-    let next : n ≡ suc (m + 1) = omega arith in (
-      take m bytes,
-      list_all-take_prefix is_string_byte bytes,
-      ap (λ k. take k (34 ∷ bytes)) next ∙ ap (λ l. 34 ∷ l) (take_more bytes m 0 closed ∙ ap (λ b. take m bytes ++ b ∷ []) quote),
-    )
+pub word_scanned : (bytes : List ℕ) (n : ℕ) (kind : TokenKind) → n ≡ prefix_len is_word_byte bytes → is_letter (get_or bytes 0 0) ≡ true → Spells kind (take n bytes) → (n ≤ length bytes) × Begins bytes kind (take n bytes) (drop n bytes)
+word_scanned bytes n kind size letter spelled = scanned bytes n (word_front bytes n size).inside kind spelled (word_longest bytes n size letter)
 
-string_at : (bytes : List ℕ) (n : ℕ) → n ≡ prefix_len is_string_byte bytes + 2 → prefix_len is_string_byte bytes < length bytes → get_or bytes (prefix_len is_string_byte bytes) 0 ≡ 34 → (n ≤ length (34 ∷ bytes)) × Begins (34 ∷ bytes) kinds.StringLiteral (take n (34 ∷ bytes)) (drop n (34 ∷ bytes))
-string_at bytes n size closed quote =
-    scanned (34 ∷ bytes) n (omega arith) kinds.StringLiteral (string_spelled bytes n size closed quote)
-    (λ other others split lexeme. omega (arith, string_longest bytes other others split lexeme))
+-- ---- numbers
 
-no_string_at : (bytes : List ℕ) → (prefix_len is_string_byte bytes < length bytes → get_or bytes (prefix_len is_string_byte bytes) 0 ≢ 34) → NoTokenBegins (34 ∷ bytes)
-no_string_at bytes no_quote kind spelling rest begins =
-    let closes = closes_at bytes spelling rest begins.front (quoted_lexeme bytes spelling rest begins.front (looks kind spelling begins.spelled).some (inl (kind, begins.spelled))) in
-    no_quote closes.closed closes.quote
+-- what a lexeme at the front of bytes that begin like a number is
+pub data NumberView (text : List ℕ) : Type 0 where
+  Like : IsNumberLike text → NumberView text
+  Float : IsFloating text → NumberView text
+  Short : length text ≤ 1 → NumberView text
 
--- the same at bytes that begin with a quote, where closing is the place of the first byte after it that no string has inside
-module _ (bytes : List ℕ) (closing : ℕ) (some : 0 < length bytes) (first : get_or bytes 0 0 ≡ 34) (closing_is : closing ≡ prefix_len is_string_byte (drop 1 bytes) + 1) where
-  quoted : bytes ≡ 34 ∷ drop 1 bytes
-  quoted = drop_more bytes 0 0 some ∙ ap (λ b. b ∷ drop 1 bytes) first
+number_front_class : (bytes text rest : List ℕ) → begins_number bytes ≡ true → bytes ≡ text ++ rest → 1 < length text → begins_number text ≡ true
+number_front_class bytes text rest number split long =
+    ap (λ a. is_digit a || (eqb a 46 && is_digit (get_or text 1 0))) (sym (front_reads 0 bytes text rest split 0 (omega arith)))
+    ∙ ap (λ b. is_digit (get_or bytes 0 0) || (eqb (get_or bytes 0 0) 46 && is_digit b)) (sym (front_reads 0 bytes text rest split 1 long)) ∙ number
 
-  rest_length : length bytes ≡ length (drop 1 bytes) + 1
-  rest_length = omega (arith, ap length quoted)
+number_by_view : (text : List ℕ) → class_of_text text ≡ 1 → IsLexeme text → NumberView text
+number_by_view text class lexeme =
+    elim (view text lexeme) [
+      | OfKind kind spelled is ↦ ⊎_elim (λ integer. Like (integer_number_like text (looks_integer integer.0 text integer.1))) (λ floating. Float floating) (number_by_class kind text spelled (sym is ∙ class))
+      | OfNumber number is ↦ Like number
+      | OfComment begins size is ↦ absurd (omega arith)
+    ]
 
-  closing_byte : get_or bytes closing 0 ≡ get_or (drop 1 bytes) (prefix_len is_string_byte (drop 1 bytes)) 0
-  closing_byte =
-      let next : closing ≡ suc (prefix_len is_string_byte (drop 1 bytes)) = omega arith in
-      ap (get_or bytes closing) refl ∙ ap (λ l. get_or l closing 0) quoted ∙ ap (λ n. get_or (34 ∷ drop 1 bytes) n 0) next
-
-  pub string_scanned : closing < length bytes → get_or bytes closing 0 ≡ 34 → IsScanned bytes (Some (record { kind = kinds.StringLiteral; length = closing + 1 }))
-  string_scanned closed quote =
-      subst (λ l. (closing + 1 ≤ length l) × Begins l kinds.StringLiteral (take (closing + 1) l) (drop (closing + 1) l)) (sym quoted)
-      (string_at (drop 1 bytes) (closing + 1) (omega arith) (omega (arith, rest_length)) (sym closing_byte ∙ quote))
-
-  pub no_string_begins : (closing < length bytes → get_or bytes closing 0 ≢ 34) → NoTokenBegins bytes
-  no_string_begins no_quote =
-      subst NoTokenBegins (sym quoted) (no_string_at (drop 1 bytes) (λ closed quote. no_quote (omega (arith, rest_length)) (closing_byte ∙ quote)))
-
--- punctuators
-pub punctuator_scanned : (bytes rest : List ℕ) (punctuator : Punctuator) (n : ℕ) → bytes ≡ punctuator_text punctuator ++ rest → n ≡ length (punctuator_text punctuator) → IsScanned bytes (Some (record { kind = kinds.Punctuator punctuator; length = n }))
-punctuator_scanned bytes rest punctuator n split size =
-    let look = looks (kinds.Punctuator punctuator) (punctuator_text punctuator) refl in
-    let front : take n bytes ≡ punctuator_text punctuator = ap (take n) split ∙ take_at (punctuator_text punctuator) rest n (sym size) in
-    let first = first_of_front bytes (punctuator_text punctuator) rest split look.some in
-    scanned bytes n (omega (arith, ap length split, length-append (punctuator_text punctuator) rest)) (kinds.Punctuator punctuator) front
-    (λ other others divided lexeme.
+pub number_view : (bytes text rest : List ℕ) → begins_number bytes ≡ true → bytes ≡ text ++ rest → IsLexeme text → NumberView text
+number_view bytes text rest number split lexeme =
     ⊎_elim
-    (λ some.
-    let same_first = first_of_front bytes other others divided some in
-    let class : class_of_byte (get_or other 0 0) ≡ 3 = ap class_of_byte same_first ∙ sym (ap class_of_byte first) ∙ look.class in
-    ⊎_elim
-    (λ spelled.
-    let found = punctuator_by_class spelled.0 other spelled.1 (spelled.2 ∙ class) in
-    let same = same_punctuator punctuator found.0 (first ∙ sym same_first ∙ ap (λ l. get_or l 0 0) found.1) in
-    omega (arith, ap (λ p. length (punctuator_text p)) same, ap length found.1))
-    (λ number. absurd (omega arith))
-    (lexeme_is other lexeme))
-    (λ none. omega arith)
-    (cases_lt 0 (length other)))
+    (λ long. number_by_view text (class_of_number text (number_front_class bytes text rest number split long)) lexeme)
+    (λ short. Short short)
+    (cases_lt 1 (length text))
 
-pub no_punctuator_begins : (bytes : List ℕ) → class_of_byte (get_or bytes 0 0) ≡ 3 → ((punctuator : Punctuator) (rest : List ℕ) → bytes ≡ punctuator_text punctuator ++ rest → ⊥) → NoTokenBegins bytes
-no_punctuator_begins bytes class none kind spelling rest begins =
-    let look = looks kind spelling begins.spelled in
-    let found = punctuator_by_class kind spelling begins.spelled (sym look.class ∙ ap class_of_byte (first_of_front bytes spelling rest begins.front look.some) ∙ class) in
-    none found.0 rest (begins.front ∙ ap (λ l. l ++ rest) found.1)
+-- a front of a front
+pub shorter_front : (bytes other others : List ℕ) (n : ℕ) → bytes ≡ other ++ others → n ≤ length other → other ≡ take n bytes ++ drop n other
+shorter_front bytes other others n split inside =
+    sym (take-append-drop n other) ∙ ap (λ l. l ++ drop n other) (sym (ap (take n) split ∙ take-append-le n other others inside))
+
+pub floating_scanned : (bytes : List ℕ) (n : ℕ) → begins_number bytes ≡ true → 0 < n → IsLongest IsFloating bytes n → (n ≤ length bytes) × Begins bytes kinds.Floating (take n bytes) (drop n bytes)
+floating_scanned bytes n number positive longest =
+    scanned bytes n longest.0 kinds.Floating (longest.1 positive)
+    (λ other others split lexeme.
+    elim (number_view bytes other others number split lexeme) [
+      | Like like ↦ ⊎_elim (λ more. absurd (like.1 (take n bytes) (drop n other) (shorter_front bytes other others n split (omega arith)) (longest.1 positive))) (λ less. less) (cases_lt n (length other))
+      | Float floating ↦ longest.2 other others split floating
+      | Short short ↦ omega arith
+    ])
+
+-- where no floating constant begins, a digit does
+pub point_digit : (a b : ℕ) → (is_digit a || (eqb a 46 && is_digit b)) ≡ true → is_digit a ≡ false → (a ≡ 46) × (is_digit b ≡ true)
+point_digit a b number fails =
+    ⊎_elim
+    (λ digit. absurd (false≢true (sym fails ∙ digit)))
+    (λ point. let parts = and_parts (eqb a 46) (is_digit b) point in (eqb-true a 46 parts.0, parts.1))
+    (or_parts (is_digit a) (eqb a 46 && is_digit b) number)

@@ -1,5 +1,15 @@
+pub mod Bytes
 pub mod Keyword
 pub mod Punctuator
+pub mod Integers
+pub mod Floating
 pub mod Spelling
 pub mod Tokens
+pub mod Comments
+pub mod Directives
+pub mod TokenLists
+pub mod Elements
+pub mod Files
+pub mod Macros
 pub mod Scanning
+pub mod Reading

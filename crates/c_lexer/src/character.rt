@@ -1,32 +1,47 @@
 ghost use Rattle.std.specs.Prelude.{◌≡◌};
-ghost use Rattle.c_lexer.specs.Spelling.{is_blank, is_digit, is_letter, is_word_byte, is_string_byte};
+ghost use Rattle.c_lexer.specs.Spelling.{escape_of};
+ghost use Rattle.c_lexer.specs.Scanning.{IsQuoted};
 
-pub(crate) fn is_blank(byte: u8) -> bool
-    ensures { result ≡ is_blank byte }
-{
-    byte == b' ' || byte == b'\t' || byte == b'\n'
+use crate::byte::is_character_byte;
+use crate::token::CharacterConstant;
+
+/// A character constant at the front of some bytes, and how many bytes spell it.
+#[derive(Clone, Copy, Debug)]
+pub(crate) struct Quoted {
+    pub constant: CharacterConstant,
+    pub length: usize,
 }
 
-pub(crate) fn is_digit(byte: u8) -> bool
-    ensures { result ≡ is_digit byte }
+/// What a byte behind a backslash stands for.
+fn escape(byte: u8) -> Option<u8>
+    ensures { result ≡ escape_of byte }
 {
-    b'0' <= byte && byte <= b'9'
+    match byte {
+        b'0' => Some(0),
+        b'n' => Some(b'\n'),
+        b't' => Some(b'\t'),
+        b'r' => Some(b'\r'),
+        b'\\' | b'\'' | b'"' => Some(byte),
+        _ => None,
+    }
 }
 
-pub(crate) fn is_letter(byte: u8) -> bool
-    ensures { result ≡ is_letter byte }
+/// The character constant that begins the bytes (C11 6.4.4.4).
+pub(crate) fn character_constant(bytes: &[u8]) -> Option<Quoted>
+    ensures { IsQuoted bytes.now result }
 {
-    (b'A' <= byte && byte <= b'Z') || (b'a' <= byte && byte <= b'z') || byte == b'_'
-}
-
-pub(crate) fn is_word_byte(byte: u8) -> bool
-    ensures { result ≡ is_word_byte byte }
-{
-    is_letter(byte) || is_digit(byte)
-}
-
-pub(crate) fn is_string_byte(byte: u8) -> bool
-    ensures { result ≡ is_string_byte byte }
-{
-    byte != b'"' && byte != b'\n'
+    match *bytes {
+        [b'\'', value, b'\'', ..] if is_character_byte(value) => Some(Quoted {
+            constant: CharacterConstant { value },
+            length: 3,
+        }),
+        [b'\'', b'\\', byte, b'\'', ..] => {
+            let value = escape(byte)?;
+            Some(Quoted {
+                constant: CharacterConstant { value },
+                length: 4,
+            })
+        }
+        _ => None,
+    }
 }

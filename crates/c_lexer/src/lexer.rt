@@ -1,85 +1,59 @@
-ghost use Rattle.std.specs.Prelude.{◌≡◌, ◌≤◌, ◌^◌, List, length, take, drop, IfOk, IfErr, MatchResult};
-ghost use Rattle.c_lexer.specs.declared.token.Token.{Token};
-ghost use Rattle.rc_text.specs.Places.{place_after};
-ghost use Rattle.c_lexer.specs.Tokens.{AreTokensOf};
-ghost use Rattle.c_lexer.specs.Scanning.{IsNextToken, HasNoTokens};
+ghost use Rattle.std.specs.Prelude.{◌≡◌, ◌^◌, ◌≤◌, ◌<◌, length, IfOk, IfErr, Ok, Err, ◌⊎◌};
+ghost use Rattle.c_lexer.specs.declared.fault.LexFault.{LexFault};
+ghost use Rattle.c_lexer.specs.TokenLists.{TokenLists};
+ghost use Rattle.c_lexer.specs.Files.{AreTokensOf, IsFaultOf, token_limit, IfFault, IfTokenLimit};
+ghost use Rattle.c_lexer.specs.Reading.{Refuses};
 
-use crate::position::{after_blanks, after_text};
-use crate::scanner::scan;
-use crate::token::Token;
+use crate::fault::LexRefusal;
+use crate::macros::Macros;
+use crate::reader::Reader;
 use crate::tokens::Tokens;
-use rc_text::{Bytes, NoMemory, Place};
-use std::alloc::{AllocFailed, Global};
+use rc_text::{Bytes, Place};
+use std::alloc::Global;
 
-/// Why there are no tokens.
-#[derive(Clone, Copy, Debug, PartialEq, Eq, Hash)]
-pub enum LexRefusal {
-    /// The bytes are no list of the tokens that the lexer knows.
-    NotYet,
-    /// Memory ran out.
-    NoMemory,
-}
+/// The most tokens that a file may have.
+pub const TOKEN_LIMIT: usize = 200000;
 
-impl From<NoMemory> for LexRefusal {
-    ghost use Rattle.std.specs.Prelude.{◌≡◌};
-    ghost use Rattle.c_lexer.specs.declared.lexer.LexRefusal.TheVariants as refusals;
-
-    ghost from_gives = { λ _ refusal. refusal ≡ refusals.NoMemory };
-
-    fn from(_error: NoMemory) -> LexRefusal {
-        LexRefusal::NoMemory
-    }
-}
-
-impl<T: Drop> From<AllocFailed<T>> for LexRefusal {
-    ghost use Rattle.std.specs.Prelude.{◌≡◌};
-    ghost use Rattle.c_lexer.specs.declared.lexer.LexRefusal.TheVariants as refusals;
-
-    ghost from_gives = { λ _ refusal. refusal ≡ refusals.NoMemory };
-
-    fn from(_error: AllocFailed<T>) -> LexRefusal {
-        LexRefusal::NoMemory
-    }
-}
-
-/// The tokens of a file, by longest match (C11 6.4, paragraph 4). What the lexer doesn't know, as a comment,
-/// an operator, a character constant or a constant of another form, is `NotYet` for the whole file, wherever
-/// it stands. Places count in `u32`, so a file has at most 2 ^ 31 bytes.
+/// The tokens of a file, by longest match (C11 6.4, paragraph 4), with its macros replaced; or its first
+/// fault, which comes before the limit. Places count in `u32`, so a file has at most 2 ^ 31 bytes.
 pub fn lex(alloc: Global, bytes: &Bytes) -> Result<Tokens, LexRefusal>
     requires { length bytes.now ≤ 2 ^ 31 }
-    ensures found { IfOk result (λ tokens. AreTokensOf bytes.now tokens) }
-    ensures only { (tokens : List Token) → AreTokensOf bytes.now tokens → MatchResult result (λ found. found ≡ tokens) (λ refusal. refusal ≡ LexRefusal.NoMemory) }
+    // Each answer is the file's.
+    ensures found { IfOk result (λ tokens. AreTokensOf bytes.now tokens × (length tokens.tokens ≤ token_limit)) }
+    ensures faulty { IfFault result (IsFaultOf bytes.now) }
+    ensures many { IfTokenLimit result ((tokens : TokenLists) × AreTokensOf bytes.now tokens × (token_limit < length tokens.tokens)) }
+    // What the file has is the answer, unless memory runs out.
+    ensures only_tokens { (tokens : TokenLists) → AreTokensOf bytes.now tokens → length tokens.tokens ≤ token_limit → (result ≡ Ok tokens) ⊎ (result ≡ Err LexRefusal.NoMemory) }
+    ensures only_fault { (fault : LexFault) → IsFaultOf bytes.now fault → (result ≡ Err (LexRefusal.Fault fault)) ⊎ (result ≡ Err LexRefusal.NoMemory) }
+    ensures only_many { (tokens : TokenLists) → AreTokensOf bytes.now tokens → token_limit < length tokens.tokens → (result ≡ Err LexRefusal.TokenLimit) ⊎ (result ≡ Err LexRefusal.NoMemory) }
 {
-    let bytes = bytes.as_slice();
-    let mut tokens = Vec::new(alloc);
-    let mut place = Place::START;
-    while let Some(token) = next_token(alloc, bytes, place)? {
-        place = after_text(token.place, token.text.len() as u32);
-        tokens.push(token)?;
+    match read_all(alloc, bytes.as_slice()) {
+        Ok(tokens) => {
+            if tokens.len() <= TOKEN_LIMIT {
+                Ok(tokens)
+            } else {
+                Err(LexRefusal::TokenLimit)
+            }
+        }
+        Err(refusal) => Err(refusal),
     }
-    Ok(Tokens::from_vec(tokens))
 }
 
-/// The first token from a place on, or none where only blanks are left.
-fn next_token(alloc: Global, bytes: &[u8], start: Place) -> Result<Option<Token>, LexRefusal>
-    requires fits { length bytes.now ≤ 2 ^ 31 }
-    requires inside { start.byte ≤ length bytes.now }
-    requires here { start ≡ place_after (take start.byte bytes.now) }
-    ensures found { IfOk result (λ next. IsNextToken (take start.byte bytes.now) (drop start.byte bytes.now) next) }
-    ensures refused { IfErr result (λ refusal. refusal ≡ LexRefusal.NotYet → HasNoTokens (drop start.byte bytes.now)) }
+/// All tokens of a file, however many there are.
+fn read_all(alloc: Global, bytes: &[u8]) -> Result<Tokens, LexRefusal>
+    requires { length bytes.now ≤ 2 ^ 31 }
+    ensures found { IfOk result (AreTokensOf bytes.now) }
+    ensures refused { IfErr result (Refuses bytes.now) }
 {
-    let place = after_blanks(bytes, start);
-    let rest = &bytes[place.byte as usize..];
-    if rest.is_empty() {
-        return Ok(None);
-    }
-    let Some(scanned) = scan(rest) else {
-        return Err(LexRefusal::NotYet);
+    let mut reader = Reader {
+        place: Place::START,
+        fresh: true,
+        macros: Macros::new(alloc),
+        tokens: Vec::new(alloc),
+        includes: Vec::new(alloc),
     };
-    let text = Bytes::from_slice(alloc, &rest[..scanned.length])?;
-    Ok(Some(Token {
-        kind: scanned.kind,
-        place,
-        text,
-    }))
+    while (reader.place.byte as usize) < bytes.len() {
+        reader.read(alloc, bytes)?;
+    }
+    Ok(Tokens::new(reader.tokens, reader.includes))
 }

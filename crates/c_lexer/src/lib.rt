@@ -1,13 +1,25 @@
 //! C tokens with their places. The layer above calls `lex` on the bytes of a file, and reads kinds,
-//! values and texts from the tokens: no later layer looks at the bytes again.
+//! values and texts from the tokens: no later layer looks at the bytes again. Directives are gone by
+//! then: macros are replaced, and of the includes the tokens keep which stood where.
 #![tactic(auto)]
 
+mod byte;
 mod character;
+mod comment;
+mod directive;
+mod element;
+mod fault;
+mod floating;
+mod gap;
+mod header;
+mod integer;
 mod keyword;
 mod lexer;
+mod macros;
 mod number;
-mod position;
+mod place;
 mod punctuator;
+mod reader;
 mod scanner;
 mod string;
 #[cfg(test)]
@@ -16,9 +28,11 @@ mod token;
 mod tokens;
 mod word;
 
+pub use fault::{LexFault, LexFaultKind, LexRefusal};
+pub use header::Header;
 pub use keyword::Keyword;
-pub use lexer::{LexRefusal, lex};
-pub use number::integer_constant;
+pub use lexer::{TOKEN_LIMIT, lex};
+pub use number::{DecimalConstant, integer_constant};
 pub use punctuator::Punctuator;
-pub use token::{IntegerConstant, Token, TokenKind};
-pub use tokens::Tokens;
+pub use token::{CharacterConstant, IntegerBase, IntegerConstant, IntegerSuffix, Token, TokenKind};
+pub use tokens::{Inclusion, Tokens};

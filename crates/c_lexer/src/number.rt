@@ -2,16 +2,21 @@ ghost use Rattle.std.specs.Prelude.{◌≡◌, ◌≢◌, ℕ, ◌+◌, ◌-◌,
 ghost use Rattle.std.specs.List.{list_all};
 ghost use Rattle.std.specs.Fmt.{decimal};
 ghost use Rattle.std.specs.Str.Parse.{digits_value};
-ghost use Rattle.c_lexer.specs.Spelling.{is_digit};
+ghost use Rattle.c_lexer.specs.Bytes.{is_digit};
 
-use crate::character::is_digit;
-use crate::token::IntegerConstant;
+use crate::byte::is_digit;
+
+/// The value of a decimal number that an `int` holds.
+#[derive(Clone, Copy, Debug, PartialEq, Eq, Hash)]
+pub struct DecimalConstant {
+    pub value: u32,
+}
 
 /// The largest value of an `int`.
 const MAXIMUM: u64 = 2147483647;
 
-/// The decimal constant that is spelled so (C11 6.4.4.1), or `0`, which C11 counts as octal.
-pub fn integer_constant(spelling: &[u8]) -> Option<IntegerConstant>
+/// The number below 2 ^ 31 whose decimal the spelling is.
+pub fn integer_constant(spelling: &[u8]) -> Option<DecimalConstant>
     ensures found { IfSome result (λ constant. (constant.value < 2 ^ 31) × (spelling.now ≡ decimal constant.value)) }
     ensures none { IfNone result ((value : ℕ) → value < 2 ^ 31 → spelling.now ≢ decimal value) }
 {
@@ -19,7 +24,7 @@ pub fn integer_constant(spelling: &[u8]) -> Option<IntegerConstant>
         return None;
     }
     let value = digits_value(spelling)?;
-    Some(IntegerConstant { value })
+    Some(DecimalConstant { value })
 }
 
 /// Whether a zero stands before other bytes.

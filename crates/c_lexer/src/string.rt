@@ -1,8 +1,8 @@
 ghost use Rattle.std.specs.Prelude.{◌≡◌};
 ghost use Rattle.std.specs.List.{prefix_len};
-ghost use Rattle.c_lexer.specs.Spelling.{is_string_byte};
+ghost use Rattle.c_lexer.specs.Bytes.{is_string_byte};
 
-use crate::character::is_string_byte;
+use crate::byte::is_string_byte;
 
 /// How many bytes may stand in a string before its closing quote.
 pub(crate) fn inside_length(bytes: &[u8]) -> usize

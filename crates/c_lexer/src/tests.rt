@@ -1,136 +1,202 @@
-use crate::{IntegerConstant, Keyword, LexRefusal, Punctuator, TokenKind, Tokens, lex};
+//! Expected values are worked out by hand from the rules.
+
+mod directives;
+mod faults;
+mod numbers;
+mod places;
+
+use crate::{
+    CharacterConstant, IntegerBase, IntegerConstant, IntegerSuffix, Keyword, LexFault,
+    LexFaultKind, LexRefusal, Punctuator, TokenKind, Tokens, lex,
+};
 use rc_text::{Bytes, Place};
+use std::alloc::Global;
 use std::process::Abort;
 use std::test::Fail;
 
-/// A token that is expected: its kind, its text, and its byte, line and column.
-type Row = (TokenKind, &'static str, u32, u32, u32);
-
-fn lexed(rt: &impl Abort, bytes: &Bytes, alloc: std::alloc::Global) -> Result<Tokens, LexRefusal> {
-    assert!(rt; bytes.len() < 100);
-    lex(alloc, bytes)
+pub(crate) fn lexed(rt: &impl Abort, alloc: Global, text: &[u8]) -> Result<Tokens, LexRefusal> {
+    assert!(rt; text.len() < 2000000);
+    let bytes = Bytes::from_slice(alloc, text)?;
+    lex(alloc, &bytes)
 }
 
-fn expect_row(rt: &impl Abort, tokens: &Tokens, index: usize, row: Row) {
-    let (kind, text, byte, line, column) = row;
-    assert!(rt; index < tokens.len());
-    let token = &tokens.as_slice()[index];
-    assert!(rt; token.kind == kind, "the kind of {text}");
+/// The kinds of a text's tokens are these.
+pub(crate) fn expect_kinds(rt: &impl Abort, alloc: Global, text: &[u8], kinds: &[TokenKind]) {
+    match lexed(rt, alloc, text) {
+        Ok(tokens) => {
+            assert!(rt;
+                tokens.len() == kinds.len(),
+                "the number of tokens of {text:?}"
+            );
+            for (index, token) in tokens.as_slice().iter().enumerate() {
+                assert!(rt;
+                    Some(&token.kind) == kinds.get(index),
+                    "token {index} of {text:?}"
+                );
+            }
+        }
+        Err(_) => assert!(rt; false, "{text:?} is refused"),
+    }
+}
+
+/// The texts of a text's tokens, joined by blanks, are these.
+pub(crate) fn expect_texts(
+    rt: &impl Abort,
+    alloc: Global,
+    text: &str,
+    want: &str,
+) -> Result<(), Fail> {
+    let tokens = lexed(rt, alloc, text.as_bytes()).ok().ok_or("refused")?;
+    let mut joined = Bytes::new(alloc);
+    for token in tokens.as_slice() {
+        if !joined.is_empty() {
+            joined.append(b" ")?;
+        }
+        joined.append(token.text.as_slice())?;
+    }
     assert!(rt;
-        token.text.as_slice() == text.as_bytes(),
-        "the text of {text}"
+        joined.as_slice() == want.as_bytes(),
+        "{text} gives {:?}",
+        joined.as_slice()
     );
-    assert!(rt;
-        token.place == Place { byte, line, column },
-        "the place of {text}"
-    );
+    Ok(())
+}
+
+/// The fault of a text, as its kind's name, its byte, line and column.
+pub(crate) type Fault = (&'static str, u32, u32, u32);
+
+pub(crate) fn expect_fault(rt: &impl Abort, alloc: Global, text: &[u8], want: Fault) {
+    let (kind, byte, line, column) = want;
+    match lexed(rt, alloc, text) {
+        Err(LexRefusal::Fault(fault)) => {
+            assert!(rt;
+                fault.place == Place { byte, line, column },
+                "{text:?} at {:?}",
+                fault.place
+            );
+            assert!(rt; is_kind(&fault.kind, kind), "{text:?} is {:?}", fault.kind);
+        }
+        Ok(_) => assert!(rt; false, "{text:?} is accepted"),
+        Err(_) => assert!(rt; false, "{text:?} has no fault"),
+    }
+}
+
+/// Whether a fault is of the kind of this name; a directive's own name stands behind `#`.
+fn is_kind(kind: &LexFaultKind, want: &str) -> bool {
+    match kind {
+        LexFaultKind::BadByte => want == "BadByte",
+        LexFaultKind::OpenComment => want == "OpenComment",
+        LexFaultKind::OpenString => want == "OpenString",
+        LexFaultKind::BadNumber => want == "BadNumber",
+        LexFaultKind::Directive(None) => want == "#",
+        LexFaultKind::Directive(Some(name)) => {
+            want.as_bytes().first() == Some(&b'#')
+                && want.as_bytes().get(1..) == Some(name.as_slice())
+        }
+    }
+}
+
+pub(crate) fn integer(value: u128, base: IntegerBase, suffix: IntegerSuffix) -> TokenKind {
+    TokenKind::Integer(IntegerConstant {
+        value,
+        base,
+        suffix,
+    })
+}
+
+pub(crate) fn decimal(value: u128) -> TokenKind {
+    integer(value, IntegerBase::Decimal, IntegerSuffix::Plain)
+}
+
+pub(crate) fn character(value: u8) -> TokenKind {
+    TokenKind::Character(CharacterConstant { value })
 }
 
 #[test]
-fn reads_a_whole_file(rt: HostRuntime) -> Result<(), Fail> {
-    let text = "[[rc::returns(\"7 @ int<i32>\")]] int f(void) { return 7; }";
-    let expected = [
-        (TokenKind::Punctuator(Punctuator::OpenBracket), "[", 0),
-        (TokenKind::Punctuator(Punctuator::OpenBracket), "[", 1),
-        (TokenKind::Identifier, "rc", 2),
-        (TokenKind::Punctuator(Punctuator::DoubleColon), "::", 4),
-        (TokenKind::Identifier, "returns", 6),
-        (TokenKind::Punctuator(Punctuator::OpenParenthesis), "(", 13),
-        (TokenKind::StringLiteral, "\"7 @ int<i32>\"", 14),
-        (TokenKind::Punctuator(Punctuator::CloseParenthesis), ")", 28),
-        (TokenKind::Punctuator(Punctuator::CloseBracket), "]", 29),
-        (TokenKind::Punctuator(Punctuator::CloseBracket), "]", 30),
-        (TokenKind::Keyword(Keyword::Int), "int", 32),
-        (TokenKind::Identifier, "f", 36),
-        (TokenKind::Punctuator(Punctuator::OpenParenthesis), "(", 37),
-        (TokenKind::Keyword(Keyword::Void), "void", 38),
-        (TokenKind::Punctuator(Punctuator::CloseParenthesis), ")", 42),
-        (TokenKind::Punctuator(Punctuator::OpenBrace), "{", 44),
-        (TokenKind::Keyword(Keyword::Return), "return", 46),
-        (TokenKind::Integer(IntegerConstant { value: 7 }), "7", 53),
-        (TokenKind::Punctuator(Punctuator::Semicolon), ";", 54),
-        (TokenKind::Punctuator(Punctuator::CloseBrace), "}", 56),
-    ];
-    let bytes = Bytes::from_slice(rt.alloc(), text.as_bytes())?;
-    let tokens = lexed(&rt, &bytes, rt.alloc())?;
-    assert_eq!(rt; tokens.len(), 20);
-    for (index, (kind, text, byte)) in expected.iter().enumerate() {
-        assert!(rt; *byte < 100);
-        expect_row(&rt, &tokens, index, (*kind, *text, *byte, 1, *byte + 1));
+fn reads_words_and_punctuators(rt: HostRuntime) -> Result<(), Fail> {
+    let alloc = rt.alloc();
+    expect_kinds(
+        &rt,
+        alloc,
+        b"int _Bool asm int7 _x x_1",
+        &[
+            TokenKind::Keyword(Keyword::Int),
+            TokenKind::Keyword(Keyword::Bool),
+            TokenKind::Keyword(Keyword::Asm),
+            TokenKind::Identifier,
+            TokenKind::Identifier,
+            TokenKind::Identifier,
+        ],
+    );
+    for punctuator in [
+        Punctuator::Ellipsis,
+        Punctuator::LeftShiftAssign,
+        Punctuator::Arrow,
+        Punctuator::Increment,
+        Punctuator::HashHash,
+        Punctuator::DoubleColon,
+        Punctuator::Point,
+        Punctuator::Slash,
+        Punctuator::Bar,
+        Punctuator::Comma,
+    ] {
+        expect_kinds(
+            &rt,
+            alloc,
+            punctuator.text().as_bytes(),
+            &[TokenKind::Punctuator(punctuator)],
+        );
     }
     Ok(())
 }
 
 #[test]
-fn takes_the_longest_and_counts_lines(rt: HostRuntime) -> Result<(), Fail> {
-    let text = "\tint7 _Bool\nasm\n\n  x returns1 \"a\t::b\" 0 2147483647::\t;\n";
-    let expected = [
-        (TokenKind::Identifier, "int7", 1, 1, 2),
-        (TokenKind::Keyword(Keyword::Bool), "_Bool", 6, 1, 7),
-        (TokenKind::Keyword(Keyword::Asm), "asm", 12, 2, 1),
-        (TokenKind::Identifier, "x", 19, 4, 3),
-        (TokenKind::Identifier, "returns1", 21, 4, 5),
-        (TokenKind::StringLiteral, "\"a\t::b\"", 30, 4, 14),
-        (
-            TokenKind::Integer(IntegerConstant { value: 0 }),
-            "0",
-            38,
-            4,
-            22,
-        ),
-        (
-            TokenKind::Integer(IntegerConstant { value: 2147483647 }),
-            "2147483647",
-            40,
-            4,
-            24,
-        ),
-        (
-            TokenKind::Punctuator(Punctuator::DoubleColon),
-            "::",
-            50,
-            4,
-            34,
-        ),
-        (TokenKind::Punctuator(Punctuator::Semicolon), ";", 53, 4, 37),
-    ];
-    let bytes = Bytes::from_slice(rt.alloc(), text.as_bytes())?;
-    let tokens = lexed(&rt, &bytes, rt.alloc())?;
-    assert_eq!(rt; tokens.len(), 10);
-    for (index, row) in expected.iter().enumerate() {
-        expect_row(&rt, &tokens, index, *row);
-    }
-    Ok(())
-}
-
-#[test]
-fn refuses_what_is_no_token(rt: HostRuntime) -> Result<(), Fail> {
-    let refused: [&[u8]; 16] = [
-        b"00",
-        b"07",
-        b"2147483648",
-        b"99999999999999999999",
-        b"7x",
-        b"int 7_",
-        b"@",
-        b"'",
-        b"\"open",
-        b"\"a\nb\"",
-        b"\"",
-        b"a\0b",
-        b"x\xff",
-        b"/",
-        b":",
-        b":::",
-    ];
-    for text in refused {
-        let bytes = Bytes::from_slice(rt.alloc(), text)?;
-        let answer = lexed(&rt, &bytes, rt.alloc());
-        assert!(rt; matches!(answer, Err(LexRefusal::NotYet)), "{text:?}");
-    }
-    for blank in ["", " ", "\n\t \n"] {
-        let bytes = Bytes::from_slice(rt.alloc(), blank.as_bytes())?;
-        assert_eq!(rt; lexed(&rt, &bytes, rt.alloc())?.len(), 0, "{blank:?}");
+fn takes_the_longest(rt: HostRuntime) -> Result<(), Fail> {
+    for (text, want) in [
+        ("a++b", "a ++ b"),
+        ("a+ +b", "a + + b"),
+        ("a+++b", "a ++ + b"),
+        ("a>>=b", "a >>= b"),
+        ("a>>>=b", "a >> >= b"),
+        ("...", "..."),
+        ("....", "... ."),
+        ("..", ". ."),
+        (":::", ":: :"),
+        ("[[rc::x]]", "[ [ rc :: x ] ]"),
+        ("p->q-->r", "p -> q -- > r"),
+        ("a#b##c", "a # b ## c"),
+        ("L'x'", "L 'x'"),
+        ("a/b", "a / b"),
+        ("a/ *b", "a / * b"),
+        ("x/*/y*/z", "x z"),
+        ("x/**/y", "x y"),
+        ("x/***/y", "x y"),
+        ("x/*\n*/y", "x y"),
+        ("x//y\nz", "x z"),
+        ("x//y", "x"),
+        ("//@rc::import x\ny", "y"),
+        ("//@rc::import x", ""),
+        ("/*/ */", ""),
+        ("", ""),
+        (" \t\r\n\x0c", ""),
+        ("1.5abc", "1.5 abc"),
+        ("1e3x", "1e3 x"),
+        ("1e3fx", "1e3f x"),
+        ("0x1p3q", "0x1p3 q"),
+        ("1..2", "1. .2"),
+        ("1.e", "1. e"),
+        ("0x1.8", "0x1 .8"),
+        ("0x1e+5", "0x1e + 5"),
+        ("1e+5", "1e+5"),
+        ("a.b.5", "a . b .5"),
+        ("\"a\tb\"c", "\"a\tb\" c"),
+        ("\"@$`\\\"", "\"@$`\\\""),
+        ("'a''b'", "'a' 'b'"),
+        ("'\\''", "'\\''"),
+        ("%:x", "% : x"),
+        ("<:x", "< : x"),
+    ] {
+        expect_texts(&rt, rt.alloc(), text, want)?;
     }
     Ok(())
 }

@@ -2,10 +2,38 @@ use crate::keyword::Keyword;
 use crate::punctuator::Punctuator;
 use rc_text::{Bytes, Place};
 
-/// An integer constant's value (C11 6.4.4.1).
+/// How an integer constant's digits are read (C11 6.4.4.1). A zero alone counts as decimal.
+#[derive(Clone, Copy, Debug, PartialEq, Eq, Hash)]
+pub enum IntegerBase {
+    Decimal,
+    Octal,
+    Hexadecimal,
+}
+
+/// What an integer constant's suffix asks for, in whatever spelling: `Plain` is none, `Unsigned` is `u`,
+/// `Long` is `l`, `LongLong` is `ll`.
+#[derive(Clone, Copy, Debug, PartialEq, Eq, Hash)]
+pub enum IntegerSuffix {
+    Plain,
+    Unsigned,
+    Long,
+    UnsignedLong,
+    LongLong,
+    UnsignedLongLong,
+}
+
+/// An integer constant (C11 6.4.4.1). Its type is left to a later layer, and no type may hold it.
 #[derive(Clone, Copy, Debug, PartialEq, Eq, Hash)]
 pub struct IntegerConstant {
-    pub value: u32,
+    pub value: u128,
+    pub base: IntegerBase,
+    pub suffix: IntegerSuffix,
+}
+
+/// A character constant (C11 6.4.4.4), of type `int`. Its value is at most 126.
+#[derive(Clone, Copy, Debug, PartialEq, Eq, Hash)]
+pub struct CharacterConstant {
+    pub value: u8,
 }
 
 /// What kind of token it is, with the value of a constant.
@@ -14,12 +42,18 @@ pub enum TokenKind {
     Identifier,
     Keyword(Keyword),
     Integer(IntegerConstant),
+    /// A floating constant. No later layer asks for its value.
+    Floating,
+    Character(CharacterConstant),
     StringLiteral,
     Punctuator(Punctuator),
+    /// What `NULL` stands for.
+    NullPointer,
 }
 
 /// A token: its kind, the place of its first byte, and its bytes as they stand in the file, the quotes
-/// of a string included.
+/// of a string included. A token that a macro made has the kind that the macro stands for, and the place
+/// and the text of the macro's name.
 #[derive(Debug, Drop)]
 pub struct Token {
     pub kind: TokenKind,

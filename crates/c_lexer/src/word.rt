@@ -1,8 +1,9 @@
 ghost use Rattle.std.specs.Prelude.{◌≡◌, IsTrue};
 ghost use Rattle.std.specs.List.{prefix_len};
-ghost use Rattle.c_lexer.specs.Spelling.{is_word, is_word_byte, Spells};
+ghost use Rattle.c_lexer.specs.Bytes.{is_word_byte};
+ghost use Rattle.c_lexer.specs.Spelling.{is_word, Spells};
 
-use crate::character::is_word_byte;
+use crate::byte::is_word_byte;
 use crate::keyword::Keyword;
 use crate::token::TokenKind;
 

@@ -1,6 +1,6 @@
 -- What the tokens of the form have at their places.
-use Rattle.std.proofs.Common.{◌≡◌, ℕ, zero, suc, ◌<◌, ◌^◌, List, [], ◌∷◌, length, map, Bool, Option, Some, None, refl, sym, ap, ◌∙◌, subst, arith, get_or, true, false, ◌++◌, ◌&&◌}
-use Rattle.std.specs.Prelude.{IsTrue, codes}
+use Rattle.std.proofs.Common.{◌≡◌, ℕ, zero, suc, ◌<◌, ◌^◌, List, [], ◌∷◌, length, map, Bool, Option, Some, None, refl, sym, ap, ◌∙◌, arith, get_or, true, false, ◌&&◌}
+use Rattle.std.specs.Prelude.{IsTrue, MatchOption, codes}
 use Rattle.std.specs.Fmt.{decimal}
 use Rattle.std.proofs.lemmas.Fmt.{decimal_injective}
 use Rattle.std.specs.List.{slice_get}
@@ -14,16 +14,14 @@ use Rattle.c_lexer.specs.declared.token.IntegerConstant.{IntegerConstant}
 use Rattle.c_lexer.specs.declared.token.TokenKind.{TokenKind}
 use Rattle.c_lexer.specs.declared.token.TokenKind.TheVariants.{Identifier, Integer}
 use Rattle.refinedc_cli.specs.declared.one_literal.OneLiteral.{OneLiteral}
-use Rattle.c_lexer.specs.Tokens.{AreTokensOf, TokensAfter}
-use Rattle.c_lexer.specs.Spelling.{Spells, is_letter, is_word, is_word_byte}
+use Rattle.c_lexer.specs.Bytes.{is_letter, is_word_byte}
+use Rattle.c_lexer.specs.Spelling.{is_word}
 use Rattle.std.specs.List.{list_all}
 use Rattle.std.specs.Str.{IsAscii, IsUtf8}
 use Rattle.std.proofs.lemmas.Str.{IsUtf8-from_ascii}
 use Rattle.std.proofs.lemmas.Bool.Decides.{nat_tests}
-use Rattle.refinedc_cli.specs.declared.file.Checked.{Checked}
-use Rattle.refinedc_cli.specs.Checked.{AreSpelled, IsRead, IsCheckedFile, form_of}
-use Rattle.refinedc_cli.specs.Answer.{IsFormOf}
-use Rattle.refinedc_cli.specs.OneLiteral.{form_kinds, declaration, IsSpelledAt, StandsAt, IsOneLiteral}
+use Rattle.refinedc_cli.specs.Reading.{NamesAreWords}
+use Rattle.refinedc_cli.specs.OneLiteral.{decimal_constant, form_kinds, declaration, IsSpelledAt, StandsAt, IsOneLiteral}
 
 -- the token of a kind that stands at a place
 pub token_of_kind : (tokens : List Token) (i : ℕ) (kind : TokenKind) → slice_get (map (λ token. token.kind) tokens) i ≡ Some kind
@@ -34,16 +32,16 @@ token_of_kind (token ∷ tokens) (suc i) kind there = token_of_kind tokens i kin
 
 -- the form's constant stands behind `return`
 pub constant_of_form : (tokens : List Token) (form : OneLiteral) → IsOneLiteral tokens form
-    → (token : Token) × (slice_get tokens 17 ≡ Some token) × (token.kind ≡ Integer (record { value = form.returned }))
-constant_of_form tokens form is = token_of_kind tokens 17 (Integer (record { value = form.returned })) (rw is.kinds refl)
+    → (token : Token) × (slice_get tokens 17 ≡ Some token) × (token.kind ≡ Integer (decimal_constant form.returned))
+constant_of_form tokens form is = token_of_kind tokens 17 (Integer (decimal_constant form.returned)) (rw is.kinds refl)
 
 -- and is the one that was read there
-pub kinds_of_form : (tokens : List Token) (form : OneLiteral) (token : Token) (constant : IntegerConstant) → slice_get tokens 17 ≡ Some token
-    → token.kind ≡ Integer constant → IsOneLiteral tokens form → map (λ token. token.kind) tokens ≡ form_kinds constant.value
-kinds_of_form tokens form token constant there kind is =
+pub kinds_of_form : (tokens : List Token) (form : OneLiteral) (token : Token) (value : ℕ) → slice_get tokens 17 ≡ Some token
+    → token.kind ≡ Integer (decimal_constant value) → IsOneLiteral tokens form → map (λ token. token.kind) tokens ≡ form_kinds value
+kinds_of_form tokens form token value there kind is =
     let found = constant_of_form tokens form is in
-    let same : Integer (record { value = form.returned }) ≡ Integer constant = cc (found.1, found.2) in
-    let inside : ◌≡◌ {A = IntegerConstant} (record { value = form.returned }) constant = cc in
+    let same : Integer (decimal_constant form.returned) ≡ Integer (decimal_constant value) = cc (found.1, found.2) in
+    let inside : ◌≡◌ {A = IntegerConstant} (decimal_constant form.returned) (decimal_constant value) = cc in
     is.kinds ∙ ap (λ (c : IntegerConstant). form_kinds c.value) inside
 
 -- the form has twenty tokens
@@ -94,45 +92,17 @@ pub form_unique : (tokens : List Token) (a b : OneLiteral) → IsOneLiteral toke
 form_unique tokens a b is_a is_b =
     let constant_a = constant_of_form tokens a is_a in
     let constant_b = constant_of_form tokens b is_b in
-    let same : Integer (record { value = a.returned }) ≡ Integer (record { value = b.returned }) = cc (constant_a.1, constant_a.2, constant_b.1, constant_b.2) in
-    let constants : ◌≡◌ {A = IntegerConstant} (record { value = a.returned }) (record { value = b.returned }) = cc same in
+    let same : Integer (decimal_constant a.returned) ≡ Integer (decimal_constant b.returned) = cc (constant_a.1, constant_a.2, constant_b.1, constant_b.2) in
+    let constants : ◌≡◌ {A = IntegerConstant} (decimal_constant a.returned) (decimal_constant b.returned) = cc same in
     let words : declaration a.declared ≡ declaration b.declared =
     sym is_a.declares.2 ∙ declaration_of_form tokens b is_a.declares.0 is_a.declares.1 is_b in
     same_form a b (same_declared a.declared b.declared is_a.in_range is_b.in_range words) (ap (λ (c : IntegerConstant). c.value) constants)
     (same_place tokens 11 a.places.name b.places.name is_a.name_place is_b.name_place) (same_place tokens 15 a.places.body b.places.body is_a.body_place is_b.body_place)
     (same_place tokens 16 a.places.return_ b.places.return_ is_a.return_place is_b.return_place) (same_place tokens 17 a.places.literal b.places.literal is_a.literal_place is_b.literal_place)
 
--- what the tokens of a file are read as is what the file is read as
-pub checked_of_file : (bytes : List ℕ) (tokens : List Token) (found : Option Checked) → AreTokensOf bytes tokens → ((others : List Token) → AreTokensOf bytes others → tokens ≡ others)
-    → IsRead tokens found → IsCheckedFile bytes found
-checked_of_file bytes tokens None are only read =
-    λ form file. read form (subst (λ (t : List Token). IsOneLiteral t form) (sym (only file.0 file.1)) file.2)
-checked_of_file bytes tokens (Some checked) are only read = (
-  (
-    (tokens, are, read.0),
-    λ other file. form_unique tokens other checked.form (subst (λ (t : List Token). IsOneLiteral t other) (sym (only file.0 file.1)) file.2) read.0,
-  ),
-  read.1,
-  record { tokens = tokens; read = are; is = read.0; named = read.2; built = read.3 },
-)
-
--- the tokens of a file have spellings
-pub tokens_are_spelled : (before bytes : List ℕ) (tokens : List Token) → TokensAfter before bytes tokens → AreSpelled tokens
-tokens_are_spelled before bytes [] are i token there = absurd (cc there)
-tokens_are_spelled before bytes (first ∷ tokens) are zero token there =
-    let same : first ≡ token = cc there in
-    subst (λ (t : Token). Spells t.kind t.text) same are.4.spelled
-tokens_are_spelled before bytes (first ∷ tokens) are (suc i) token there =
-    tokens_are_spelled (before ++ are.0 ++ first.text) are.1 tokens are.6 i token there
-
 -- the form names its function
 pub name_of_form : (tokens : List Token) (form : OneLiteral) → IsOneLiteral tokens form → (token : Token) × (slice_get tokens 11 ≡ Some token)
 name_of_form tokens form is = (is.name_place.0, is.name_place.1)
-
--- the form of what the file is read as is the file's
-pub form_of_checked : (bytes : List ℕ) (found : Option Checked) → IsCheckedFile bytes found → IsFormOf bytes (form_of found)
-form_of_checked bytes None is = is
-form_of_checked bytes (Some checked) is = is.0
 
 both : (a b : Bool) → (a && b) ≡ true → (a ≡ true) × (b ≡ true)
 both true b h = (refl, h)
@@ -154,17 +124,33 @@ word_is_ascii [] is i = omega arith
 word_is_ascii (b ∷ bytes) is zero = letter_is_ascii b (both (is_letter b) (list_all is_word_byte bytes) is).0
 word_is_ascii (b ∷ bytes) is (suc i) = word_bytes_are_ascii bytes (both (is_letter b) (list_all is_word_byte bytes) is).1 i
 
+-- a word is text
+pub word_is_text : (bytes : List ℕ) → IsTrue (is_word bytes) → IsUtf8 bytes
+word_is_text bytes is = IsUtf8-from_ascii bytes (word_is_ascii bytes is)
+
 -- the function's name is text
-pub name_is_text : (tokens : List Token) (form : OneLiteral) (token : Token) → AreSpelled tokens → IsOneLiteral tokens form → slice_get tokens 11 ≡ Some token → IsUtf8 token.text
-name_is_text tokens form token spelled is there =
+pub name_is_text : (tokens : List Token) (form : OneLiteral) (token : Token) → NamesAreWords tokens → IsOneLiteral tokens form → slice_get tokens 11 ≡ Some token → IsUtf8 token.text
+name_is_text tokens form token words is there =
     let found = token_of_kind tokens 11 Identifier (rw is.kinds refl) in
     let same : found.0 ≡ token = cc (found.1, there) in
     let kind : token.kind ≡ Identifier = ap (λ (t : Token). t.kind) (sym same) ∙ found.2 in
-    let word = subst (λ (k : TokenKind). Spells k token.text) kind (spelled 11 token there) in
-    IsUtf8-from_ascii token.text (word_is_ascii token.text word.0)
+    word_is_text token.text (words 11 token there kind)
 
--- the literal is in range
-pub returned_in_range : (tokens : List Token) (form : OneLiteral) → AreSpelled tokens → IsOneLiteral tokens form → form.returned < 2 ^ 31
-returned_in_range tokens form spelled is =
-    let found = constant_of_form tokens form is in
-    (subst (λ (k : TokenKind). Spells k found.0.text) found.2 (spelled 17 found.0 found.1)).0
+-- what stands at a place is the constant that was read there
+pub constant_there : (tokens : List Token) (token : Token) (constant : IntegerConstant) (result : Option ℕ) → slice_get tokens 17 ≡ Some token → token.kind ≡ Integer constant
+    → MatchOption result ((value : ℕ) → constant ≡ decimal_constant value → value < 2 ^ 31 → ⊥) (λ value. (constant ≡ decimal_constant value) × (value < 2 ^ 31))
+    → MatchOption result ((token : Token) (value : ℕ) → slice_get tokens 17 ≡ Some token → token.kind ≡ Integer (decimal_constant value) → value < 2 ^ 31 → ⊥)
+    (λ value. (token : Token) × (slice_get tokens 17 ≡ Some token) × (token.kind ≡ Integer (decimal_constant value)) × (value < 2 ^ 31))
+constant_there tokens token constant (Some value) there kind is = (token, there, kind ∙ ap (λ (c : IntegerConstant). Integer c) is.0, is.1)
+constant_there tokens token constant None there kind none = λ other value at other_kind small.
+    let same : other ≡ token = cc (at, there) in
+    let kinds : Integer constant ≡ Integer (decimal_constant value) = sym kind ∙ ap (λ (t : Token). t.kind) (sym same) ∙ other_kind in
+    let constants : ◌≡◌ {A = IntegerConstant} constant (decimal_constant value) = cc kinds in
+    none value constants small
+
+-- what stands there is no constant
+pub other_there : (tokens : List Token) (token : Token) → slice_get tokens 17 ≡ Some token → ((constant : IntegerConstant) → token.kind ≡ Integer constant → ⊥)
+    → (other : Token) (value : ℕ) → slice_get tokens 17 ≡ Some other → other.kind ≡ Integer (decimal_constant value) → value < 2 ^ 31 → ⊥
+other_there tokens token there none other value at kind small =
+    let same : other ≡ token = cc (at, there) in
+    none (decimal_constant value) (ap (λ (t : Token). t.kind) (sym same) ∙ kind)

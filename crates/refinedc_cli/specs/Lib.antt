@@ -1,6 +1,6 @@
 pub mod Answer
-pub mod Checked
 pub mod OneLiteral
+pub mod Reading
 pub mod Run
 pub mod Status
 pub mod Texts

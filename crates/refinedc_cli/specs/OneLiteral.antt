@@ -9,10 +9,18 @@ use Rattle.c_lexer.specs.declared.token.TokenKind.{TokenKind}
 use Rattle.c_lexer.specs.declared.token.TokenKind.TheVariants.{Identifier, Keyword, Integer, StringLiteral, Punctuator}
 use Rattle.c_lexer.specs.declared.keyword.Keyword.TheVariants as keyword
 use Rattle.c_lexer.specs.declared.punctuator.Punctuator.TheVariants as sign
-use Rattle.c_lexer.specs.Tokens.{AreTokensOf}
+use Rattle.c_lexer.specs.declared.token.IntegerConstant.{IntegerConstant}
+use Rattle.c_lexer.specs.declared.token.IntegerBase.TheVariants.{Decimal}
+use Rattle.c_lexer.specs.declared.token.IntegerSuffix.TheVariants.{Plain}
+use Rattle.c_lexer.specs.TokenLists.{TokenLists}
+use Rattle.c_lexer.specs.Files.{AreTokensOf}
 use Rattle.caesium_ir.specs.declared.program.Program.{Program}
 use Rattle.caesium_ir.specs.Literal.{literal_program}
 use Rattle.refinedc_cli.specs.declared.one_literal.OneLiteral.{OneLiteral}
+
+-- a decimal constant without a suffix
+abbrev pub decimal_constant : ℕ → IntegerConstant
+decimal_constant value = record { value = value; base = Decimal; suffix = Plain }
 
 -- the kinds of the form's tokens, for a function that returns this literal
 abbrev pub form_kinds : ℕ → List TokenKind
@@ -21,7 +29,7 @@ form_kinds returned =
     ∷ Punctuator sign.OpenParenthesis ∷ StringLiteral ∷ Punctuator sign.CloseParenthesis
     ∷ Punctuator sign.CloseBracket ∷ Punctuator sign.CloseBracket ∷ Keyword keyword.Int ∷ Identifier
     ∷ Punctuator sign.OpenParenthesis ∷ Keyword keyword.Void ∷ Punctuator sign.CloseParenthesis
-    ∷ Punctuator sign.OpenBrace ∷ Keyword keyword.Return ∷ Integer (record { value = returned }) ∷ Punctuator sign.Semicolon
+    ∷ Punctuator sign.OpenBrace ∷ Keyword keyword.Return ∷ Integer (decimal_constant returned) ∷ Punctuator sign.Semicolon
     ∷ Punctuator sign.CloseBrace ∷ []
 
 -- the string that declares the returned value
@@ -43,23 +51,24 @@ pub record IsOneLiteral (tokens : List Token) (form : OneLiteral) : Type 0 where
   pub attribute : IsSpelledAt tokens 4 (codes "returns")
   pub declares : IsSpelledAt tokens 6 (declaration form.declared)
   pub in_range : form.declared < 2 ^ 31
+  pub returned_in_range : form.returned < 2 ^ 31
   pub name_place : StandsAt tokens 11 form.places.name
   pub body_place : StandsAt tokens 15 form.places.body
   pub return_place : StandsAt tokens 16 form.places.return_
   pub literal_place : StandsAt tokens 17 form.places.literal
 
+-- the tokens are others
+abbrev pub IsNoForm : List Token → Type 0
+IsNoForm tokens = (form : OneLiteral) → IsOneLiteral tokens form → ⊥
+
 -- the file is of the form, with these literals and places
 abbrev pub IsOneLiteralFile : List ℕ → OneLiteral → Type 0
-IsOneLiteralFile bytes form = (tokens : List Token) × AreTokensOf bytes tokens × IsOneLiteral tokens form
-
--- the file is not of the form
-abbrev pub IsOtherFile : List ℕ → Type 0
-IsOtherFile bytes = (form : OneLiteral) → IsOneLiteralFile bytes form → ⊥
+IsOneLiteralFile bytes form = (lists : TokenLists) × AreTokensOf bytes lists × IsOneLiteral lists.tokens form
 
 -- the program of the file, and the name of its function
 pub record IsProgramOfFile (bytes name : List ℕ) (form : OneLiteral) (program : Program) : Type 0 where
-  pub tokens : List Token
-  pub read : AreTokensOf bytes tokens
-  pub is : IsOneLiteral tokens form
-  pub named : IsSpelledAt tokens 11 name
+  pub lists : TokenLists
+  pub read : AreTokensOf bytes lists
+  pub is : IsOneLiteral lists.tokens form
+  pub named : IsSpelledAt lists.tokens 11 name
   pub built : program ≡ literal_program name form.returned form.places

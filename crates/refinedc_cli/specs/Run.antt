@@ -14,7 +14,10 @@ use Rattle.refinedc_cli.specs.declared.one_literal.OneLiteral.{OneLiteral}
 use Rattle.refinedc_cli.specs.declared.status.Status.{Status}
 use Rattle.refinedc_cli.specs.declared.status.Status.TheVariants.{WriteFault, NoMemory}
 use Rattle.refinedc_cli.specs.Answer.{file_limit, IsAnswer}
-use Rattle.refinedc_cli.specs.OneLiteral.{IsOneLiteralFile, IsOtherFile, IsProgramOfFile}
+use Rattle.c_lexer.specs.declared.fault.LexFault.{LexFault}
+use Rattle.c_lexer.specs.Files.{AreTokensOf, IsFaultOf, token_limit}
+use Rattle.c_lexer.specs.TokenLists.{TokenLists}
+use Rattle.refinedc_cli.specs.OneLiteral.{IsOneLiteralFile, IsNoForm, IsProgramOfFile}
 use Rattle.refinedc_cli.specs.Texts.{write_fault_text, no_memory_text}
 use Rattle.refinedc_cli.specs.Words.{IsCheck}
 
@@ -74,9 +77,21 @@ IsAcceptedFile content = (length content ≤ file_limit) × (form : OneLiteral) 
 abbrev pub IsRefusedFile : List ℕ → Type 0
 IsRefusedFile content = (length content ≤ file_limit) × (form : OneLiteral) × IsOneLiteralFile content form × (form.returned ≢ form.declared)
 
--- the file is within the limit and of another form
+-- the file is within the limit and has a lexical fault, or it has none, not too many tokens, and another form
+abbrev pub IsFaultyFile : List ℕ → Type 0
+IsFaultyFile content = (length content ≤ file_limit) × (fault : LexFault) × IsFaultOf content fault
+
 abbrev pub IsNotYetFile : List ℕ → Type 0
-IsNotYetFile content = (length content ≤ file_limit) × IsOtherFile content
+IsNotYetFile content =
+    (length content ≤ file_limit) × (lists : TokenLists) × AreTokensOf content lists × (length lists.tokens ≤ token_limit) × IsNoForm lists.tokens
+
+abbrev pub IsFileRefusedFile : List ℕ → Type 0
+IsFileRefusedFile content = IsFaultyFile content ⊎ IsNotYetFile content
+
+-- the file is longer than the limit, or it is within it and has too many tokens
+abbrev pub IsLimitFile : List ℕ → Type 0
+IsLimitFile content =
+    (file_limit < length content) ⊎ ((length content ≤ file_limit) × (lists : TokenLists) × AreTokensOf content lists × (token_limit < length lists.tokens))
 
 -- Every run of the file's program is sound: whatever number of threads call its function, in whichever order they take
 -- their steps and after however many, no configuration is undefined, and each finished thread has returned the declared

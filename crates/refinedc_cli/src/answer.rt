@@ -1,11 +1,14 @@
 ghost use Rattle.std.specs.Prelude.{◌≡◌, IfOk};
-ghost use Rattle.refinedc_cli.specs.Answer.{usage_answer, read_fault_answer, limit_answer, not_yet_answer, accepted_answer, refused_answer};
+ghost use Rattle.refinedc_cli.specs.Answer.{usage_answer, read_fault_answer, limit_answer, not_yet_answer, accepted_answer, refused_answer, fault_answer, token_limit_answer};
+ghost use Rattle.refinedc_cli.specs.Texts.{NameIsText};
 
 use crate::one_literal::OneLiteral;
 use crate::status::Status;
 use crate::texts::{
-    FILE_LIMIT_TEXT, USAGE_TEXT, listing_text, not_yet_text, read_fault_text, refusal_text,
+    FILE_LIMIT_TEXT, TOKEN_LIMIT_TEXT, USAGE_TEXT, fault_text, listing_text, not_yet_text,
+    read_fault_text, refusal_text,
 };
+use c_lexer::LexFault;
 use rc_text::{NoMemory, Text};
 use std::alloc::Global;
 
@@ -83,6 +86,29 @@ impl Answer {
             status: Status::Refused,
             out: refusal_text(alloc, name, form)?,
             err: Text::new(alloc),
+        })
+    }
+
+    /// On a file with a lexical fault.
+    pub fn fault(alloc: Global, name: &str, fault: &LexFault) -> Result<Answer, NoMemory>
+        requires { NameIsText fault.now.kind }
+        ensures { IfOk result (λ answer. answer ≡ fault_answer name.now fault.now) }
+    {
+        Ok(Answer {
+            status: Status::FileRefused,
+            out: Text::new(alloc),
+            err: fault_text(alloc, name, fault)?,
+        })
+    }
+
+    /// On a file with too many tokens.
+    pub fn token_limit(alloc: Global) -> Result<Answer, NoMemory>
+        ensures { IfOk result (λ answer. answer ≡ token_limit_answer) }
+    {
+        Ok(Answer {
+            status: Status::Limit,
+            out: Text::new(alloc),
+            err: Text::from_str(alloc, TOKEN_LIMIT_TEXT)?,
         })
     }
 }

@@ -1,9 +1,10 @@
-ghost use Rattle.std.specs.Prelude.{◌≡◌, IfOk};
-ghost use Rattle.refinedc_cli.specs.Answer.{answer_on, IsFileAnswer, IsAnswer};
-ghost use Rattle.refinedc_cli.specs.Checked.{form_of};
+ghost use Rattle.std.specs.Prelude.{◌≡◌, ◌==◌, if◌then◌else◌, IfOk};
+ghost use Rattle.refinedc_cli.specs.Answer.{accepted_answer, refused_answer, answer_on, IsFileAnswer, IsAnswer};
+ghost use Rattle.refinedc_cli.specs.Reading.{FaultIsText};
 
 use crate::answer::Answer;
-use crate::file::{Checked, read_file};
+use crate::file::{Reading, read_file};
+use crate::one_literal::OneLiteral;
 use crate::words::checked_name;
 use rc_text::{NoMemory, ReadRefusal, Shelf, Text, read_whole};
 use std::alloc::Global;
@@ -27,8 +28,8 @@ fn answer_to_file<H: Shelf>(alloc: Global, name: &str, shelf: &mut H) -> Result<
 {
     match read_whole(alloc, shelf, name, FILE_LIMIT) {
         Ok(bytes) => {
-            let checked = read_file(alloc, &bytes)?;
-            answer_on(alloc, name, &checked)
+            let reading = read_file(alloc, &bytes)?;
+            answer_on(alloc, name, &reading)
         }
         Err(ReadRefusal::TooLong) => Answer::limit(alloc),
         Err(ReadRefusal::CannotOpen) => Answer::read_fault(alloc, name),
@@ -37,13 +38,26 @@ fn answer_to_file<H: Shelf>(alloc: Global, name: &str, shelf: &mut H) -> Result<
     }
 }
 
-/// The answer on a file of the form, or on one of another form.
-fn answer_on(alloc: Global, name: &str, checked: &Option<Checked>) -> Result<Answer, NoMemory>
-    ensures { IfOk result (λ answer. answer ≡ answer_on name.now (form_of checked.now)) }
+/// The answer on a file that was read so.
+fn answer_on(alloc: Global, name: &str, reading: &Reading) -> Result<Answer, NoMemory>
+    requires { FaultIsText reading.now }
+    ensures { IfOk result (λ answer. answer ≡ answer_on name.now reading.now) }
 {
-    match checked {
-        None => Answer::not_yet(alloc, name),
-        Some(Checked { form, .. }) if form.returned == form.declared => Answer::accepted(alloc),
-        Some(Checked { form, .. }) => Answer::refused(alloc, name, form),
+    match reading {
+        Reading::Faulty(fault) => Answer::fault(alloc, name, fault),
+        Reading::TooManyTokens => Answer::token_limit(alloc),
+        Reading::Other => Answer::not_yet(alloc, name),
+        Reading::Form(checked) => answer_on_form(alloc, name, &checked.form),
+    }
+}
+
+/// The answer on a file of the form.
+fn answer_on_form(alloc: Global, name: &str, form: &OneLiteral) -> Result<Answer, NoMemory>
+    ensures { IfOk result (λ answer. answer ≡ (if form.now.returned == form.now.declared then accepted_answer else refused_answer name.now form.now)) }
+{
+    if form.returned == form.declared {
+        Answer::accepted(alloc)
+    } else {
+        Answer::refused(alloc, name, form)
     }
 }

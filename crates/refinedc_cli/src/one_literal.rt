@@ -1,10 +1,13 @@
 ghost use Rattle.std.specs.Prelude.{◌≡◌, ◌≢◌, ℕ, ◌^◌, ◌<◌, ◌↔◌, List, map, IsTrue, MatchOption, Some, slice_get, length};
 ghost use Rattle.c_lexer.specs.declared.token.Token.{Token};
 ghost use Rattle.c_lexer.specs.declared.token.TokenKind.TheVariants.{Integer};
-ghost use Rattle.refinedc_cli.specs.OneLiteral.{form_kinds, declaration, IsSpelledAt, IsOneLiteral};
+ghost use Rattle.refinedc_cli.specs.OneLiteral.{decimal_constant, form_kinds, declaration, IsSpelledAt, IsOneLiteral};
 ghost use Rattle.refinedc_cli.specs.declared.one_literal.OneLiteral.{OneLiteral};
 
-use c_lexer::{IntegerConstant, Keyword, Punctuator, Token, TokenKind, integer_constant};
+use c_lexer::{
+    IntegerBase, IntegerConstant, IntegerSuffix, Keyword, Punctuator, Token, TokenKind,
+    integer_constant,
+};
 use caesium_ir::LiteralPlaces;
 
 /// A function that returns a literal: the value that it is declared to return, the literal, and where
@@ -39,8 +42,8 @@ const LENGTH: usize = 20;
 pub fn one_literal(tokens: &[Token]) -> Option<OneLiteral>
     ensures { MatchOption result ((form : OneLiteral) → IsOneLiteral tokens.now form → ⊥) (λ form. IsOneLiteral tokens.now form) }
 {
-    let constant = returned_constant(tokens)?;
-    if !have_kinds(tokens, &form_kinds(constant)) {
+    let returned = returned_constant(tokens)?;
+    if !have_kinds(tokens, &form_kinds(returned)) {
         return None;
     }
     if !is_spelled_at(tokens, PREFIX, b"rc") || !is_spelled_at(tokens, ATTRIBUTE, b"returns") {
@@ -49,7 +52,7 @@ pub fn one_literal(tokens: &[Token]) -> Option<OneLiteral>
     let declared = declared_value(tokens[DECLARATION].text.as_slice())?;
     Some(OneLiteral {
         declared,
-        returned: constant.value,
+        returned,
         places: LiteralPlaces {
             name: tokens[NAME].place,
             body: tokens[BODY].place,
@@ -59,14 +62,31 @@ pub fn one_literal(tokens: &[Token]) -> Option<OneLiteral>
     })
 }
 
-/// The constant that stands behind `return`.
-fn returned_constant(tokens: &[Token]) -> Option<IntegerConstant>
+/// The largest value of an `int`.
+const MAXIMUM: u128 = 2147483647;
+
+/// The decimal constant that stands behind `return`, if an `int` holds it.
+fn returned_constant(tokens: &[Token]) -> Option<u32>
     ensures { MatchOption result
-        ((token : Token) (constant : IntegerConstant) → slice_get tokens.now RETURNED ≡ Some token → token.kind ≡ Integer constant → ⊥)
-        (λ constant. (token : Token) × (slice_get tokens.now RETURNED ≡ Some token) × (token.kind ≡ Integer constant)) }
+        ((token : Token) (value : ℕ) → slice_get tokens.now RETURNED ≡ Some token → token.kind ≡ Integer (decimal_constant value) → value < 2 ^ 31 → ⊥)
+        (λ value. (token : Token) × (slice_get tokens.now RETURNED ≡ Some token) × (token.kind ≡ Integer (decimal_constant value)) × (value < 2 ^ 31)) }
 {
     match tokens.get(RETURNED)?.kind {
-        TokenKind::Integer(constant) => Some(constant),
+        TokenKind::Integer(constant) => in_int(constant),
+        _ => None,
+    }
+}
+
+/// The value of a decimal constant without a suffix, if an `int` holds it.
+fn in_int(constant: IntegerConstant) -> Option<u32>
+    ensures { MatchOption result ((value : ℕ) → constant ≡ decimal_constant value → value < 2 ^ 31 → ⊥) (λ value. (constant ≡ decimal_constant value) × (value < 2 ^ 31)) }
+{
+    match constant {
+        IntegerConstant {
+            value,
+            base: IntegerBase::Decimal,
+            suffix: IntegerSuffix::Plain,
+        } if value <= MAXIMUM => Some(value as u32),
         _ => None,
     }
 }
@@ -89,7 +109,46 @@ fn have_kinds(tokens: &[Token], kinds: &[TokenKind]) -> bool
 fn is_same_kind(kind: TokenKind, other: TokenKind) -> bool
     ensures { IsTrue result ↔ (kind ≡ other) }
 {
-    kind == other
+    match kind {
+        TokenKind::Identifier => match other {
+            TokenKind::Identifier => true,
+            _ => false,
+        },
+        TokenKind::Keyword(keyword) => match other {
+            TokenKind::Keyword(wanted) => keyword == wanted,
+            _ => false,
+        },
+        TokenKind::Integer(constant) => match other {
+            TokenKind::Integer(wanted) => is_same_constant(constant, wanted),
+            _ => false,
+        },
+        TokenKind::Floating => match other {
+            TokenKind::Floating => true,
+            _ => false,
+        },
+        TokenKind::Character(constant) => match other {
+            TokenKind::Character(wanted) => constant == wanted,
+            _ => false,
+        },
+        TokenKind::StringLiteral => match other {
+            TokenKind::StringLiteral => true,
+            _ => false,
+        },
+        TokenKind::Punctuator(punctuator) => match other {
+            TokenKind::Punctuator(wanted) => punctuator == wanted,
+            _ => false,
+        },
+        TokenKind::NullPointer => match other {
+            TokenKind::NullPointer => true,
+            _ => false,
+        },
+    }
+}
+
+fn is_same_constant(constant: IntegerConstant, other: IntegerConstant) -> bool
+    ensures { IsTrue result ↔ (constant ≡ other) }
+{
+    constant == other
 }
 
 /// Whether the token at a position is spelled so.
@@ -103,8 +162,8 @@ fn is_spelled_at(tokens: &[Token], position: usize, text: &[u8]) -> bool
 }
 
 /// The kinds of the form's tokens, in order.
-fn form_kinds(constant: IntegerConstant) -> [TokenKind; LENGTH]
-    ensures { result ≡ form_kinds constant.value }
+fn form_kinds(returned: u32) -> [TokenKind; LENGTH]
+    ensures { result ≡ form_kinds returned }
 {
     [
         TokenKind::Punctuator(Punctuator::OpenBracket),
@@ -124,7 +183,11 @@ fn form_kinds(constant: IntegerConstant) -> [TokenKind; LENGTH]
         TokenKind::Punctuator(Punctuator::CloseParenthesis),
         TokenKind::Punctuator(Punctuator::OpenBrace),
         TokenKind::Keyword(Keyword::Return),
-        TokenKind::Integer(constant),
+        TokenKind::Integer(IntegerConstant {
+            value: u128::from(returned),
+            base: IntegerBase::Decimal,
+            suffix: IntegerSuffix::Plain,
+        }),
         TokenKind::Punctuator(Punctuator::Semicolon),
         TokenKind::Punctuator(Punctuator::CloseBrace),
     ]

@@ -116,7 +116,7 @@ fn words_are_a_command_or_usage(rt: HostRuntime) -> Result<(), Fail> {
 #[test]
 fn literals_decide_the_answer(rt: HostRuntime) -> Result<(), Fail> {
     let alloc = rt.alloc();
-    let rows: [(&[u8], &str); 14] = [
+    let rows: [(&[u8], &str); 20] = [
         (
             b"[[rc::returns(\"8 @ int<i32>\")]] int f(void) { return 7; }",
             "refused f.c:1:47: unsolved 7 = 8\n",
@@ -170,6 +170,30 @@ fn literals_decide_the_answer(rt: HostRuntime) -> Result<(), Fail> {
             b"[[rc::returns(\"99 @ int<i32>\")]] int f(void) { return 100; }",
             "refused f.c:1:48: unsolved 100 = 99\n",
         ),
+        (
+            b"// returns 8\n[[rc::returns(\"8 @ int<i32>\")]] /* it\ndoesn't */ int f(void) { return /**/ 7; }",
+            "refused f.c:3:26: unsolved 7 = 8\n",
+        ),
+        (
+            b"[[rc::returns(\"8 @ int<i32>\")]]\r\nint f(void) { return 7; }\r\n",
+            "refused f.c:2:15: unsolved 7 = 8\n",
+        ),
+        (
+            b"#include <stddef.h>\n[[rc::returns(\"8 @ int<i32>\")]] int f(void) { return 7; }",
+            "refused f.c:2:47: unsolved 7 = 8\n",
+        ),
+        (
+            b"#define SEVEN 7\n[[rc::returns(\"7 @ int<i32>\")]] int f(void) { return SEVEN; }",
+            LISTING,
+        ),
+        (
+            b"#define ZERO 0\n[[rc::returns(\"0 @ int<i32>\")]] int f(void) { return ZERO; }",
+            LISTING,
+        ),
+        (
+            b"#define N 7\n#define N 8\n[[rc::returns(\"7 @ int<i32>\")]] int f(void) { return N; }",
+            "refused f.c:3:47: unsolved 8 = 7\n",
+        ),
     ];
     for (content, out) in rows {
         let status = if out == LISTING {
@@ -189,8 +213,10 @@ fn other_files_are_not_yet_checked(rt: HostRuntime) -> Result<(), Fail> {
     let rows: [&[u8]; 32] = [
         b"",
         b" \n\t",
-        b"\0",
-        b"\xff",
+        b"// nothing\n",
+        b"#define N 07\n[[rc::returns(\"7 @ int<i32>\")]] int f(void) { return N; }",
+        b"#define f 7\n[[rc::returns(\"7 @ int<i32>\")]] int f(void) { return 7; }",
+        b"[[rc::returns(\"7 @ int<i32>\")]] int f(void) { return '\\n'; }",
         b"int f(void) { return 7; }",
         b"[[rc::returns(\"07 @ int<i32>\")]] int f(void) { return 7; }",
         b"[[rc::returns(\"7 @ int<i32>\")]] int f(void) { return 07; }",
@@ -215,13 +241,82 @@ fn other_files_are_not_yet_checked(rt: HostRuntime) -> Result<(), Fail> {
         b"[[rc::returns(\"7 @ int<i32>\")]] int f(void) { return7; }",
         b"[[rc::returns(\"7 @ int<i32>\")]] intf(void) { return 7; }",
         b"[[rc::returns(\"7 @ int<i32>\")]] int f(void) { return 7; } ;",
-        b"[[rc::returns(\"7 @ int<i32>\")]] int f(void) { return 7; }\0",
-        b"[[rc::returns(\"7 @ int<i32>\")]] int f(void) { return \xff7; }",
-        b"[[rc::returns(\"7 @ int<i32>\")]]\r\nint f(void) { return 7; }\r\n",
-        b"[[rc::returns(\"7 @ int<i32>\n\")]] int f(void) { return 7; }",
+        b"[[rc::returns(\"7 @ int<i32>\")]] int f(void) { return 7.0; }",
+        b"[[rc::returns(\"7 @ int<i32>\")]] int f(void) { return 7l; }",
     ];
     for content in rows {
         expect_not_yet(&rt, alloc, content)?;
+    }
+    Ok(())
+}
+
+// The first place at which no token begins.
+#[test]
+fn a_lexical_fault_is_named(rt: HostRuntime) -> Result<(), Fail> {
+    let alloc = rt.alloc();
+    let rows: [(&[u8], &str); 14] = [
+        (b"\0", "f.c:1:1: BadByte\n"),
+        (b"\xff", "f.c:1:1: BadByte\n"),
+        (
+            b"[[rc::returns(\"7 @ int<i32>\")]] int f(void) { return 7; }\0",
+            "f.c:1:58: BadByte\n",
+        ),
+        (
+            b"[[rc::returns(\"7 @ int<i32>\")]] int f(void) { return \xff7; }",
+            "f.c:1:54: BadByte\n",
+        ),
+        (
+            b"[[rc::returns(\"7 @ int<i32>\n\")]] int f(void) { return 7; }",
+            "f.c:1:15: OpenString\n",
+        ),
+        (
+            b"[[rc::returns(\"7 @ int<i32>\")]] int f(void) { return 08; }",
+            "f.c:1:54: BadNumber\n",
+        ),
+        (
+            b"[[rc::returns(\"7 @ int<i32>\")]] int f(void) { return 7x; }",
+            "f.c:1:54: BadNumber\n",
+        ),
+        (
+            b"[[rc::returns(\"7 @ int<i32>\")]] int f(void) { return 'ab'; }",
+            "f.c:1:54: BadNumber\n",
+        ),
+        (
+            b"[[rc::returns(\"7 @ int<i32>\")]] int f(void) { return 7; } /*/",
+            "f.c:1:59: OpenComment\n",
+        ),
+        (
+            b"[[rc::returns(\"7 @ int<i32>\")]]\n\tint f(void) { return 7; } /* open\n",
+            "f.c:2:28: OpenComment\n",
+        ),
+        (b"\n#if 1\n#endif\n", "f.c:2:1: Directive if\n"),
+        (b"int x;\n # pragma once\n", "f.c:2:2: Directive pragma\n"),
+        (b"#\n", "f.c:1:1: Directive\n"),
+        (b"#include \"x.h\"\n", "f.c:1:1: Directive include\n"),
+    ];
+    for (content, err) in rows {
+        let want = (Status::FileRefused, "", err);
+        expect(&rt, alloc, &["check", "f.c"], content, want)?;
+    }
+    Ok(())
+}
+
+// A fault comes before the limit on tokens, wherever it stands.
+#[test]
+fn a_file_has_at_most_200000_tokens(rt: HostRuntime) -> Result<(), Fail> {
+    let alloc = rt.alloc();
+    let limit = (Status::Limit, "", "limit tokens 200000\n");
+    let fault = (Status::FileRefused, "", "f.c:1:600004: BadByte\n");
+    for (length, behind, want) in [
+        (200000, b' ', (Status::FileRefused, "", NOT_YET)),
+        (200001, b' ', limit),
+        (200001, b'@', fault),
+    ] {
+        // Each token is three points.
+        let mut content = Vec::new(alloc);
+        content.resize(3 * length, b'.')?;
+        content.push(behind)?;
+        expect(&rt, alloc, &["check", "f.c"], content.as_slice(), want)?;
     }
     Ok(())
 }
@@ -289,7 +384,13 @@ fn every_token_counts_and_no_blank_does(rt: HostRuntime) -> Result<(), Fail> {
     for at in 0..20 {
         for change in [Change::Missing, Change::Doubled, Change::Cut] {
             let content = changed(alloc, &tokens, at, change, b' ')?;
-            expect_not_yet(&rt, alloc, content.as_slice())?;
+            // Without its first quote, the string leaves an `@` among the tokens.
+            if at == 6 && change == Change::Cut {
+                let want = (Status::FileRefused, "", "f.c:1:23: BadByte\n");
+                expect(&rt, alloc, &["check", "f.c"], content.as_slice(), want)?;
+            } else {
+                expect_not_yet(&rt, alloc, content.as_slice())?;
+            }
         }
     }
     // Before `return` stand 42 bytes of tokens, and a seam behind each of the 16 tokens.

@@ -1,7 +1,9 @@
-ghost use Rattle.std.specs.Prelude.{◌≡◌, IfOk, map};
-ghost use Rattle.refinedc_cli.specs.Texts.{listing_text, refusal_text, not_yet_text, read_fault_text};
+ghost use Rattle.std.specs.Prelude.{◌≡◌, ◌++◌, IfOk, map, codes};
+ghost use Rattle.std.specs.Str.{IsUtf8};
+ghost use Rattle.refinedc_cli.specs.Texts.{NameIsText, fault_text, fault_kind_text, listing_text, refusal_text, not_yet_text, read_fault_text};
 
 use crate::one_literal::OneLiteral;
+use c_lexer::{LexFault, LexFaultKind};
 use rc_text::{Lines, NoMemory, Text};
 use std::alloc::Global;
 
@@ -11,6 +13,8 @@ pub const USAGE_TEXT: &str = "usage: refinedc COMMAND FILE\n";
 pub const WRITE_FAULT_TEXT: &str = "write fault\n";
 
 pub const FILE_LIMIT_TEXT: &str = "limit file bytes 1048576\n";
+
+pub const TOKEN_LIMIT_TEXT: &str = "limit tokens 200000\n";
 
 pub const NO_MEMORY_TEXT: &str = "no memory\n";
 
@@ -77,4 +81,42 @@ pub fn read_fault_text(alloc: Global, name: &str) -> Result<Text, NoMemory>
     ensures { IfOk result (λ text. text ≡ read_fault_text name.now) }
 {
     Ok(Text::from_string(format!(in alloc; "read fault {name}\n")?))
+}
+
+/// What stands on standard error for a file with a lexical fault.
+pub fn fault_text(alloc: Global, name: &str, fault: &LexFault) -> Result<Text, NoMemory>
+    requires { NameIsText fault.now.kind }
+    ensures { IfOk result (λ text. text ≡ fault_text name.now fault.now) }
+{
+    let line = fault.place.line;
+    let column = fault.place.column;
+    let kind = fault_kind_text(alloc, &fault.kind)?;
+    let kind = kind.as_str();
+    let text = format!(in alloc; "{name}:{line}:{column}: {kind}\n")?;
+    Ok(Text::from_string(text))
+}
+
+/// The kind of a lexical fault, and the name that it has.
+fn fault_kind_text(alloc: Global, kind: &LexFaultKind) -> Result<Text, NoMemory>
+    requires { NameIsText kind.now }
+    ensures { IfOk result (λ text. text ≡ fault_kind_text kind.now) }
+{
+    match kind {
+        LexFaultKind::BadByte => Text::from_str(alloc, "BadByte"),
+        LexFaultKind::OpenComment => Text::from_str(alloc, "OpenComment"),
+        LexFaultKind::OpenString => Text::from_str(alloc, "OpenString"),
+        LexFaultKind::BadNumber => Text::from_str(alloc, "BadNumber"),
+        LexFaultKind::Directive(None) => Text::from_str(alloc, "Directive"),
+        LexFaultKind::Directive(Some(word)) => directive_text(alloc, word.as_slice()),
+    }
+}
+
+fn directive_text(alloc: Global, word: &[u8]) -> Result<Text, NoMemory>
+    requires { IsUtf8 word.now }
+    ensures { IfOk result (λ text. text ≡ codes "Directive " ++ word.now) }
+{
+    let Ok(word) = str::from_utf8(word) else {
+        unreachable!()
+    };
+    Ok(Text::from_string(format!(in alloc; "Directive {word}")?))
 }

@@ -1,7 +1,6 @@
-ghost use Rattle.std.specs.Prelude.{◌≡◌, ℕ, ◌<◌, ◌↔◌, List, length, Some};
+ghost use Rattle.std.specs.Prelude.{◌≡◌, ℕ, ◌↔◌, List, Some};
 ghost use Rattle.rc_text.specs.Faults.{Rose, HasCause};
-ghost use Rattle.refinedc_cli.specs.Answer.{file_limit};
-ghost use Rattle.refinedc_cli.specs.Run.{Runs, UnlessNoMemory, IsQuiet, ComesExactlyWhere, IsAcceptedFile, IsRefusedFile, IsNotYetFile, IsSoundFile};
+ghost use Rattle.refinedc_cli.specs.Run.{Runs, UnlessNoMemory, IsQuiet, ComesExactlyWhere, IsAcceptedFile, IsRefusedFile, IsFileRefusedFile, IsLimitFile, IsSoundFile};
 ghost use Rattle.refinedc_cli.specs.Words.{IsCheck, IsNoCommand};
 
 use crate::check::answer_to;
@@ -37,9 +36,9 @@ pub fn run<H: Shelf, O: Sink, E: Sink>(
 
     // Neither failed: the answer is by the file's content, if the shelf tells it.
     ensures limit { ComesExactlyWhere result Status.Limit words.now (H.holds shelf.old)
-        (IsQuiet (H.faults shelf.old) (H.faults shelf.new) × IsQuiet (O.faults out.old) (O.faults out.new)) (λ content. file_limit < length content) }
+        (IsQuiet (H.faults shelf.old) (H.faults shelf.new) × IsQuiet (O.faults out.old) (O.faults out.new)) IsLimitFile }
     ensures file_refused { ComesExactlyWhere result Status.FileRefused words.now (H.holds shelf.old)
-        (IsQuiet (H.faults shelf.old) (H.faults shelf.new) × IsQuiet (O.faults out.old) (O.faults out.new)) IsNotYetFile }
+        (IsQuiet (H.faults shelf.old) (H.faults shelf.new) × IsQuiet (O.faults out.old) (O.faults out.new)) IsFileRefusedFile }
     ensures refused { ComesExactlyWhere result Status.Refused words.now (H.holds shelf.old)
         (IsQuiet (H.faults shelf.old) (H.faults shelf.new) × IsQuiet (O.faults out.old) (O.faults out.new)) IsRefusedFile }
     ensures accepted { ComesExactlyWhere result Status.Accepted words.now (H.holds shelf.old)

@@ -1,7 +1,7 @@
 use Rattle.std.proofs.Common.{◌≡◌, ◌^◌, ◌<◌, true, take}
 use Rattle.std.specs.List.{list_all}
 use Rattle.std.specs.Str.Parse.{digits_value}
-use Rattle.c_lexer.specs.Spelling.{is_digit}
+use Rattle.c_lexer.specs.Bytes.{is_digit}
 use Rattle.c_lexer.proofs.number.digits_value.Given as goal
 
 abbrev pub invariant-loop-digit : goal.invariant-loop-digit

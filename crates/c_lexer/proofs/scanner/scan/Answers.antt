@@ -1,6 +1,6 @@
-use Rattle.c_lexer.proofs.Scans.{no_token_begins_none}
+use Rattle.std.proofs.Common.{sym, ◌∙◌}
+use Rattle.c_lexer.proofs.PunctuatorScans.{no_token_but_comment}
 use Rattle.c_lexer.proofs.scanner.scan.Goals as goal
 
-pub returns-in_err-first : goal.returns-in_err-first
-returns-in_err-first c =
-    rw c.from_residual.ensures (no_token_begins_none c.args.bytes.now c.in_err-first.ensures.value)
+pub returns-then-begins_comment : goal.returns-then-begins_comment
+returns-then-begins_comment c = no_token_but_comment c.args.bytes.now (sym c.begins_comment.ensures ∙ c.if-begins_comment.true)

@@ -1,15 +1,23 @@
-use Rattle.std.proofs.Common.{get_or}
-use Rattle.c_lexer.specs.declared.token.TokenKind.TheVariants as kinds
-use Rattle.c_lexer.proofs.Lexemes.{digit_is_word_byte}
-use Rattle.c_lexer.proofs.Scans.{word_scanned, no_number_begins}
+use Rattle.std.proofs.Common.{◌≡◌, ◌++◌, ◌≤◌, List, ℕ, length, arith}
+use Rattle.c_lexer.specs.Floating.{IsFloating}
+use Rattle.c_lexer.proofs.Scans.{floating_scanned}
+use Rattle.c_lexer.proofs.ScanNumbers.{integer_scanned, no_number_begins, opens_number}
 use Rattle.c_lexer.proofs.scanner.scan_number.Goals as goal
+use Rattle.c_lexer.proofs.scanner.scan_number.Goals.{After-word_length-length}
 
-pub returns-in_err-constant : goal.returns-in_err-constant
-returns-in_err-constant c =
-    rw c.from_residual.ensures
-    (no_number_begins c.args.bytes.now c.word_length-length.result c.word_length-length.ensures c.requires.some c.requires.digit c.in_err-constant.ensures.none)
+none_floating : (c : After-word_length-length) → (front rest : List ℕ) → c.args.bytes.now ≡ front ++ rest → IsFloating front → length front ≤ 0
+none_floating c front rest split floating = omega (arith, c.floating_length-floating.ensures.2 front rest split floating)
 
-pub returns : goal.returns
-returns c =
-    let word = digit_is_word_byte (get_or c.args.bytes.now 0 0) c.requires.digit in
-    word_scanned c.args.bytes.now c.word_length-length.result c.word_length-length.ensures (kinds.Integer c.in_ok-constant.constant) word c.in_ok-constant.ensures.found
+pub returns-then-floating-gt0 : goal.returns-then-floating-gt0
+returns-then-floating-gt0 c = floating_scanned c.args.bytes.now c.floating_length-floating.result c.requires (omega arith) c.floating_length-floating.ensures
+
+pub returns-in-Some : goal.returns-in-Some
+returns-in-Some c =
+    integer_scanned c.args.bytes.now c.word_length-length.result c.requires (none_floating (goal.at.returns-in-Some c).After-word_length-length) c.word_length-length.ensures c.in-Some.constant c.in-Some.ensures.found
+
+pub returns-in-None : goal.returns-in-None
+returns-in-None c =
+    let none = none_floating (goal.at.returns-in-None c).After-word_length-length in (
+      no_number_begins c.args.bytes.now c.word_length-length.result c.requires none c.word_length-length.ensures c.in-None.ensures.none,
+      opens_number c.args.bytes.now c.word_length-length.result c.requires none c.word_length-length.ensures,
+    )

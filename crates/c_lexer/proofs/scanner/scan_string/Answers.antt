@@ -2,8 +2,8 @@ use Rattle.std.proofs.Common.{◌≡◌, ◌+◌, drop, ap, ◌∙◌, arith}
 use Rattle.std.specs.List.{prefix_len}
 use Rattle.std.proofs.lemmas.List.{take_rest, length-drop}
 use Rattle.std.proofs.lemmas.List.Sums.{prefix_len-le-length}
-use Rattle.c_lexer.specs.Spelling.{is_string_byte}
-use Rattle.c_lexer.proofs.Scans.{string_scanned, no_string_begins}
+use Rattle.c_lexer.specs.Bytes.{is_string_byte}
+use Rattle.c_lexer.proofs.ScanQuotes.{string_scanned, no_string_begins}
 use Rattle.c_lexer.proofs.scanner.scan_string.Goals as goal
 use Rattle.c_lexer.proofs.scanner.scan_string.Goals.{After-inside_length-closing, else-closing-bytes-via-then-closing-bytes+else-bytes-closing-eq34, else-closing-bytes-via-else-closing-bytes}
 

@@ -1,18 +1,20 @@
 use Rattle.refinedc_cli.specs.declared.answer.Answer.{Answer}
 use Rattle.refinedc_cli.specs.Answer.{IsFileAnswer, answer_on, limit_answer, read_fault_answer, judged, too_long, unread}
-use Rattle.refinedc_cli.specs.Checked.{form_of}
-use Rattle.refinedc_cli.proofs.FormLemmas.{form_of_checked}
-use Rattle.refinedc_cli.proofs.AnswerLemmas.{of_answer, form_of_told}
+use Rattle.refinedc_cli.proofs.ReadingLemmas.{fault_is_text}
+use Rattle.refinedc_cli.proofs.AnswerLemmas.{of_answer, reading_of_told}
 use Rattle.refinedc_cli.proofs.check.answer_to_file.Goals as goal
 
-pub returns-in_ok-checked-in-Ok : goal.returns-in_ok-checked-in-Ok
-returns-in_ok-checked-in-Ok g c =
+pub answer_on-requires : goal.answer_on-requires
+answer_on-requires g c = fault_is_text c.in-Ok.bytes c.in_ok-reading-in-Ok.reading c.in_ok-reading-in-Ok.ensures
+
+pub returns-in_ok-reading-in-Ok : goal.returns-in_ok-reading-in-Ok
+returns-in_ok-reading-in-Ok g c =
     let told = g.H.Shelf.holds c.args.shelf.now c.args.name.now in
-    of_answer c.answer_on.result (answer_on c.args.name.now (form_of c.in_ok-checked-in-Ok.checked))
+    let reading = c.in_ok-reading-in-Ok.reading in
+    of_answer c.answer_on.result (answer_on c.args.name.now reading)
     (λ (answer : Answer). IsFileAnswer told c.args.name.now (g.H.Shelf.faults c.args.shelf.now) (g.H.Shelf.faults c.read_whole.new.shelf) answer)
     c.answer_on.ensures
-    (judged (form_of c.in_ok-checked-in-Ok.checked) c.in-Ok.ensures.quiet
-    (form_of_told told c.in-Ok.bytes (form_of c.in_ok-checked-in-Ok.checked) c.in-Ok.ensures.content (form_of_checked c.in-Ok.bytes c.in_ok-checked-in-Ok.checked c.in_ok-checked-in-Ok.ensures)))
+    (judged reading c.in-Ok.ensures.quiet (reading_of_told told c.in-Ok.bytes reading c.in-Ok.ensures.content c.in_ok-reading-in-Ok.ensures))
 
 pub returns-in-Err-TooLong : goal.returns-in-Err-TooLong
 returns-in-Err-TooLong g c =

@@ -3,7 +3,7 @@ use Rattle.std.specs.Prelude.{Some, slice_get}
 use Rattle.std.specs.Str.{IsUtf8}
 use Rattle.std.proofs.lemmas.Option.{slice_get_read}
 use Rattle.c_lexer.specs.declared.token.Token.{Token}
-use Rattle.refinedc_cli.proofs.FormLemmas.{length_of_form, name_is_text, returned_in_range}
+use Rattle.refinedc_cli.proofs.FormLemmas.{length_of_form, name_is_text}
 use Rattle.refinedc_cli.proofs.file.read_tokens.Goals as goal
 
 pub unreachable-requires : goal.unreachable-requires
@@ -15,4 +15,4 @@ unreachable-requires c =
     (subst IsUtf8 (ap (λ (t : Token). t.text) c.index-tokens-11.is ∙ sym c.as_slice.ensures) (name_is_text c.args.tokens.now c.in-Some.form c.index-tokens-11.result c.requires is there))
 
 pub one_literal-requires-2 : goal.one_literal-requires-2
-one_literal-requires-2 c = returned_in_range c.args.tokens.now c.in-Some.form c.requires c.in-Some.ensures
+one_literal-requires-2 c = c.in-Some.ensures.returned_in_range

@@ -1,0 +1,594 @@
+-- The spellings of punctuators: what each begins with, and where each stands in the list of all.
+use Rattle.std.proofs.Common.{◌≡◌, ℕ, ◌+◌, ◌*◌, Bool, true, false, cond, not, ◌&&◌, ◌||◌, eqb, ltb, List, [], ◌∷◌, length, get_or, refl, sym, ap, ◌∙◌, inl, inr, ◌⊎◌}
+use Rattle.std.proofs.lemmas.Bool.{false≢true}
+use Rattle.std.specs.List.{fold, list_all}
+use Rattle.c_lexer.specs.declared.punctuator.Punctuator.{Punctuator}
+use Rattle.c_lexer.specs.declared.punctuator.Punctuator.TheVariants as punctuators
+use Rattle.c_lexer.specs.Punctuator.{punctuator_text}
+use Rattle.c_lexer.specs.Bytes.{is_digit, is_word_byte, is_blank}
+use Rattle.c_lexer.specs.Scanning.{begins_comment}
+use Rattle.c_lexer.proofs.Classes.{class_of_text}
+
+-- a first byte that is no letter, digit, quote or blank, and a byte at least
+abbrev pub looks_so : List ℕ → Bool
+looks_so text =
+    ltb 0 (length text) && not (is_word_byte (get_or text 0 0)) && not (eqb (get_or text 0 0) 34) && not (eqb (get_or text 0 0) 39)
+    && not (is_blank (get_or text 0 0)) && list_all (λ b. not (is_blank b)) text
+
+pub punctuator_looks : (punctuator : Punctuator) → looks_so (punctuator_text punctuator) ≡ true
+punctuator_looks punctuators.Ellipsis = refl
+punctuator_looks punctuators.LeftShiftAssign = refl
+punctuator_looks punctuators.RightShiftAssign = refl
+punctuator_looks punctuators.Arrow = refl
+punctuator_looks punctuators.Increment = refl
+punctuator_looks punctuators.Decrement = refl
+punctuator_looks punctuators.LeftShift = refl
+punctuator_looks punctuators.RightShift = refl
+punctuator_looks punctuators.LessOrEqual = refl
+punctuator_looks punctuators.GreaterOrEqual = refl
+punctuator_looks punctuators.Equal = refl
+punctuator_looks punctuators.NotEqual = refl
+punctuator_looks punctuators.LogicalAnd = refl
+punctuator_looks punctuators.LogicalOr = refl
+punctuator_looks punctuators.MultiplyAssign = refl
+punctuator_looks punctuators.DivideAssign = refl
+punctuator_looks punctuators.RemainderAssign = refl
+punctuator_looks punctuators.AddAssign = refl
+punctuator_looks punctuators.SubtractAssign = refl
+punctuator_looks punctuators.AndAssign = refl
+punctuator_looks punctuators.XorAssign = refl
+punctuator_looks punctuators.OrAssign = refl
+punctuator_looks punctuators.HashHash = refl
+punctuator_looks punctuators.DoubleColon = refl
+punctuator_looks punctuators.OpenBracket = refl
+punctuator_looks punctuators.CloseBracket = refl
+punctuator_looks punctuators.OpenParenthesis = refl
+punctuator_looks punctuators.CloseParenthesis = refl
+punctuator_looks punctuators.OpenBrace = refl
+punctuator_looks punctuators.CloseBrace = refl
+punctuator_looks punctuators.Point = refl
+punctuator_looks punctuators.Ampersand = refl
+punctuator_looks punctuators.Star = refl
+punctuator_looks punctuators.Plus = refl
+punctuator_looks punctuators.Minus = refl
+punctuator_looks punctuators.Tilde = refl
+punctuator_looks punctuators.Exclamation = refl
+punctuator_looks punctuators.Slash = refl
+punctuator_looks punctuators.Percent = refl
+punctuator_looks punctuators.Less = refl
+punctuator_looks punctuators.Greater = refl
+punctuator_looks punctuators.Caret = refl
+punctuator_looks punctuators.Bar = refl
+punctuator_looks punctuators.Question = refl
+punctuator_looks punctuators.Colon = refl
+punctuator_looks punctuators.Semicolon = refl
+punctuator_looks punctuators.Assign = refl
+punctuator_looks punctuators.Comma = refl
+punctuator_looks punctuators.Hash = refl
+
+pub punctuator_class : (punctuator : Punctuator) → class_of_text (punctuator_text punctuator) ≡ 4
+punctuator_class punctuators.Ellipsis = refl
+punctuator_class punctuators.LeftShiftAssign = refl
+punctuator_class punctuators.RightShiftAssign = refl
+punctuator_class punctuators.Arrow = refl
+punctuator_class punctuators.Increment = refl
+punctuator_class punctuators.Decrement = refl
+punctuator_class punctuators.LeftShift = refl
+punctuator_class punctuators.RightShift = refl
+punctuator_class punctuators.LessOrEqual = refl
+punctuator_class punctuators.GreaterOrEqual = refl
+punctuator_class punctuators.Equal = refl
+punctuator_class punctuators.NotEqual = refl
+punctuator_class punctuators.LogicalAnd = refl
+punctuator_class punctuators.LogicalOr = refl
+punctuator_class punctuators.MultiplyAssign = refl
+punctuator_class punctuators.DivideAssign = refl
+punctuator_class punctuators.RemainderAssign = refl
+punctuator_class punctuators.AddAssign = refl
+punctuator_class punctuators.SubtractAssign = refl
+punctuator_class punctuators.AndAssign = refl
+punctuator_class punctuators.XorAssign = refl
+punctuator_class punctuators.OrAssign = refl
+punctuator_class punctuators.HashHash = refl
+punctuator_class punctuators.DoubleColon = refl
+punctuator_class punctuators.OpenBracket = refl
+punctuator_class punctuators.CloseBracket = refl
+punctuator_class punctuators.OpenParenthesis = refl
+punctuator_class punctuators.CloseParenthesis = refl
+punctuator_class punctuators.OpenBrace = refl
+punctuator_class punctuators.CloseBrace = refl
+punctuator_class punctuators.Point = refl
+punctuator_class punctuators.Ampersand = refl
+punctuator_class punctuators.Star = refl
+punctuator_class punctuators.Plus = refl
+punctuator_class punctuators.Minus = refl
+punctuator_class punctuators.Tilde = refl
+punctuator_class punctuators.Exclamation = refl
+punctuator_class punctuators.Slash = refl
+punctuator_class punctuators.Percent = refl
+punctuator_class punctuators.Less = refl
+punctuator_class punctuators.Greater = refl
+punctuator_class punctuators.Caret = refl
+punctuator_class punctuators.Bar = refl
+punctuator_class punctuators.Question = refl
+punctuator_class punctuators.Colon = refl
+punctuator_class punctuators.Semicolon = refl
+punctuator_class punctuators.Assign = refl
+punctuator_class punctuators.Comma = refl
+punctuator_class punctuators.Hash = refl
+
+-- one that begins with a point has no digit behind it
+pub punctuator_no_number : (punctuator : Punctuator) → (ltb (length (punctuator_text punctuator)) 2 || not (eqb (get_or (punctuator_text punctuator) 0 0) 46 && is_digit (get_or (punctuator_text punctuator) 1 0))) ≡ true
+punctuator_no_number punctuators.Ellipsis = refl
+punctuator_no_number punctuators.LeftShiftAssign = refl
+punctuator_no_number punctuators.RightShiftAssign = refl
+punctuator_no_number punctuators.Arrow = refl
+punctuator_no_number punctuators.Increment = refl
+punctuator_no_number punctuators.Decrement = refl
+punctuator_no_number punctuators.LeftShift = refl
+punctuator_no_number punctuators.RightShift = refl
+punctuator_no_number punctuators.LessOrEqual = refl
+punctuator_no_number punctuators.GreaterOrEqual = refl
+punctuator_no_number punctuators.Equal = refl
+punctuator_no_number punctuators.NotEqual = refl
+punctuator_no_number punctuators.LogicalAnd = refl
+punctuator_no_number punctuators.LogicalOr = refl
+punctuator_no_number punctuators.MultiplyAssign = refl
+punctuator_no_number punctuators.DivideAssign = refl
+punctuator_no_number punctuators.RemainderAssign = refl
+punctuator_no_number punctuators.AddAssign = refl
+punctuator_no_number punctuators.SubtractAssign = refl
+punctuator_no_number punctuators.AndAssign = refl
+punctuator_no_number punctuators.XorAssign = refl
+punctuator_no_number punctuators.OrAssign = refl
+punctuator_no_number punctuators.HashHash = refl
+punctuator_no_number punctuators.DoubleColon = refl
+punctuator_no_number punctuators.OpenBracket = refl
+punctuator_no_number punctuators.CloseBracket = refl
+punctuator_no_number punctuators.OpenParenthesis = refl
+punctuator_no_number punctuators.CloseParenthesis = refl
+punctuator_no_number punctuators.OpenBrace = refl
+punctuator_no_number punctuators.CloseBrace = refl
+punctuator_no_number punctuators.Point = refl
+punctuator_no_number punctuators.Ampersand = refl
+punctuator_no_number punctuators.Star = refl
+punctuator_no_number punctuators.Plus = refl
+punctuator_no_number punctuators.Minus = refl
+punctuator_no_number punctuators.Tilde = refl
+punctuator_no_number punctuators.Exclamation = refl
+punctuator_no_number punctuators.Slash = refl
+punctuator_no_number punctuators.Percent = refl
+punctuator_no_number punctuators.Less = refl
+punctuator_no_number punctuators.Greater = refl
+punctuator_no_number punctuators.Caret = refl
+punctuator_no_number punctuators.Bar = refl
+punctuator_no_number punctuators.Question = refl
+punctuator_no_number punctuators.Colon = refl
+punctuator_no_number punctuators.Semicolon = refl
+punctuator_no_number punctuators.Assign = refl
+punctuator_no_number punctuators.Comma = refl
+punctuator_no_number punctuators.Hash = refl
+
+pub punctuator_no_comment : (punctuator : Punctuator) → begins_comment (punctuator_text punctuator) ≡ false
+punctuator_no_comment punctuators.Ellipsis = refl
+punctuator_no_comment punctuators.LeftShiftAssign = refl
+punctuator_no_comment punctuators.RightShiftAssign = refl
+punctuator_no_comment punctuators.Arrow = refl
+punctuator_no_comment punctuators.Increment = refl
+punctuator_no_comment punctuators.Decrement = refl
+punctuator_no_comment punctuators.LeftShift = refl
+punctuator_no_comment punctuators.RightShift = refl
+punctuator_no_comment punctuators.LessOrEqual = refl
+punctuator_no_comment punctuators.GreaterOrEqual = refl
+punctuator_no_comment punctuators.Equal = refl
+punctuator_no_comment punctuators.NotEqual = refl
+punctuator_no_comment punctuators.LogicalAnd = refl
+punctuator_no_comment punctuators.LogicalOr = refl
+punctuator_no_comment punctuators.MultiplyAssign = refl
+punctuator_no_comment punctuators.DivideAssign = refl
+punctuator_no_comment punctuators.RemainderAssign = refl
+punctuator_no_comment punctuators.AddAssign = refl
+punctuator_no_comment punctuators.SubtractAssign = refl
+punctuator_no_comment punctuators.AndAssign = refl
+punctuator_no_comment punctuators.XorAssign = refl
+punctuator_no_comment punctuators.OrAssign = refl
+punctuator_no_comment punctuators.HashHash = refl
+punctuator_no_comment punctuators.DoubleColon = refl
+punctuator_no_comment punctuators.OpenBracket = refl
+punctuator_no_comment punctuators.CloseBracket = refl
+punctuator_no_comment punctuators.OpenParenthesis = refl
+punctuator_no_comment punctuators.CloseParenthesis = refl
+punctuator_no_comment punctuators.OpenBrace = refl
+punctuator_no_comment punctuators.CloseBrace = refl
+punctuator_no_comment punctuators.Point = refl
+punctuator_no_comment punctuators.Ampersand = refl
+punctuator_no_comment punctuators.Star = refl
+punctuator_no_comment punctuators.Plus = refl
+punctuator_no_comment punctuators.Minus = refl
+punctuator_no_comment punctuators.Tilde = refl
+punctuator_no_comment punctuators.Exclamation = refl
+punctuator_no_comment punctuators.Slash = refl
+punctuator_no_comment punctuators.Percent = refl
+punctuator_no_comment punctuators.Less = refl
+punctuator_no_comment punctuators.Greater = refl
+punctuator_no_comment punctuators.Caret = refl
+punctuator_no_comment punctuators.Bar = refl
+punctuator_no_comment punctuators.Question = refl
+punctuator_no_comment punctuators.Colon = refl
+punctuator_no_comment punctuators.Semicolon = refl
+punctuator_no_comment punctuators.Assign = refl
+punctuator_no_comment punctuators.Comma = refl
+punctuator_no_comment punctuators.Hash = refl
+
+pub hash_or_two : (punctuator : Punctuator) → eqb (get_or (punctuator_text punctuator) 0 0) 35 ≡ true → (punctuator ≡ punctuators.Hash) ⊎ (punctuator ≡ punctuators.HashHash)
+hash_or_two punctuators.Ellipsis e = absurd (false≢true e)
+hash_or_two punctuators.LeftShiftAssign e = absurd (false≢true e)
+hash_or_two punctuators.RightShiftAssign e = absurd (false≢true e)
+hash_or_two punctuators.Arrow e = absurd (false≢true e)
+hash_or_two punctuators.Increment e = absurd (false≢true e)
+hash_or_two punctuators.Decrement e = absurd (false≢true e)
+hash_or_two punctuators.LeftShift e = absurd (false≢true e)
+hash_or_two punctuators.RightShift e = absurd (false≢true e)
+hash_or_two punctuators.LessOrEqual e = absurd (false≢true e)
+hash_or_two punctuators.GreaterOrEqual e = absurd (false≢true e)
+hash_or_two punctuators.Equal e = absurd (false≢true e)
+hash_or_two punctuators.NotEqual e = absurd (false≢true e)
+hash_or_two punctuators.LogicalAnd e = absurd (false≢true e)
+hash_or_two punctuators.LogicalOr e = absurd (false≢true e)
+hash_or_two punctuators.MultiplyAssign e = absurd (false≢true e)
+hash_or_two punctuators.DivideAssign e = absurd (false≢true e)
+hash_or_two punctuators.RemainderAssign e = absurd (false≢true e)
+hash_or_two punctuators.AddAssign e = absurd (false≢true e)
+hash_or_two punctuators.SubtractAssign e = absurd (false≢true e)
+hash_or_two punctuators.AndAssign e = absurd (false≢true e)
+hash_or_two punctuators.XorAssign e = absurd (false≢true e)
+hash_or_two punctuators.OrAssign e = absurd (false≢true e)
+hash_or_two punctuators.HashHash e = inr refl
+hash_or_two punctuators.DoubleColon e = absurd (false≢true e)
+hash_or_two punctuators.OpenBracket e = absurd (false≢true e)
+hash_or_two punctuators.CloseBracket e = absurd (false≢true e)
+hash_or_two punctuators.OpenParenthesis e = absurd (false≢true e)
+hash_or_two punctuators.CloseParenthesis e = absurd (false≢true e)
+hash_or_two punctuators.OpenBrace e = absurd (false≢true e)
+hash_or_two punctuators.CloseBrace e = absurd (false≢true e)
+hash_or_two punctuators.Point e = absurd (false≢true e)
+hash_or_two punctuators.Ampersand e = absurd (false≢true e)
+hash_or_two punctuators.Star e = absurd (false≢true e)
+hash_or_two punctuators.Plus e = absurd (false≢true e)
+hash_or_two punctuators.Minus e = absurd (false≢true e)
+hash_or_two punctuators.Tilde e = absurd (false≢true e)
+hash_or_two punctuators.Exclamation e = absurd (false≢true e)
+hash_or_two punctuators.Slash e = absurd (false≢true e)
+hash_or_two punctuators.Percent e = absurd (false≢true e)
+hash_or_two punctuators.Less e = absurd (false≢true e)
+hash_or_two punctuators.Greater e = absurd (false≢true e)
+hash_or_two punctuators.Caret e = absurd (false≢true e)
+hash_or_two punctuators.Bar e = absurd (false≢true e)
+hash_or_two punctuators.Question e = absurd (false≢true e)
+hash_or_two punctuators.Colon e = absurd (false≢true e)
+hash_or_two punctuators.Semicolon e = absurd (false≢true e)
+hash_or_two punctuators.Assign e = absurd (false≢true e)
+hash_or_two punctuators.Comma e = absurd (false≢true e)
+hash_or_two punctuators.Hash e = inl refl
+
+-- a spelling as one number
+abbrev number_of : List ℕ → ℕ
+number_of text = fold (λ sum byte. sum * 256 + byte) 0 text
+
+abbrev punctuator_at : ℕ → Punctuator
+punctuator_at n =
+    cond (eqb n 3026478) punctuators.Ellipsis (
+    cond (eqb n 3947581) punctuators.LeftShiftAssign (
+    cond (eqb n 4079165) punctuators.RightShiftAssign (
+    cond (eqb n 11582) punctuators.Arrow (
+    cond (eqb n 11051) punctuators.Increment (
+    cond (eqb n 11565) punctuators.Decrement (
+    cond (eqb n 15420) punctuators.LeftShift (
+    cond (eqb n 15934) punctuators.RightShift (
+    cond (eqb n 15421) punctuators.LessOrEqual (
+    cond (eqb n 15933) punctuators.GreaterOrEqual (
+    cond (eqb n 15677) punctuators.Equal (
+    cond (eqb n 8509) punctuators.NotEqual (
+    cond (eqb n 9766) punctuators.LogicalAnd (
+    cond (eqb n 31868) punctuators.LogicalOr (
+    cond (eqb n 10813) punctuators.MultiplyAssign (
+    cond (eqb n 12093) punctuators.DivideAssign (
+    cond (eqb n 9533) punctuators.RemainderAssign (
+    cond (eqb n 11069) punctuators.AddAssign (
+    cond (eqb n 11581) punctuators.SubtractAssign (
+    cond (eqb n 9789) punctuators.AndAssign (
+    cond (eqb n 24125) punctuators.XorAssign (
+    cond (eqb n 31805) punctuators.OrAssign (
+    cond (eqb n 8995) punctuators.HashHash (
+    cond (eqb n 14906) punctuators.DoubleColon (
+    cond (eqb n 91) punctuators.OpenBracket (
+    cond (eqb n 93) punctuators.CloseBracket (
+    cond (eqb n 40) punctuators.OpenParenthesis (
+    cond (eqb n 41) punctuators.CloseParenthesis (
+    cond (eqb n 123) punctuators.OpenBrace (
+    cond (eqb n 125) punctuators.CloseBrace (
+    cond (eqb n 46) punctuators.Point (
+    cond (eqb n 38) punctuators.Ampersand (
+    cond (eqb n 42) punctuators.Star (
+    cond (eqb n 43) punctuators.Plus (
+    cond (eqb n 45) punctuators.Minus (
+    cond (eqb n 126) punctuators.Tilde (
+    cond (eqb n 33) punctuators.Exclamation (
+    cond (eqb n 47) punctuators.Slash (
+    cond (eqb n 37) punctuators.Percent (
+    cond (eqb n 60) punctuators.Less (
+    cond (eqb n 62) punctuators.Greater (
+    cond (eqb n 94) punctuators.Caret (
+    cond (eqb n 124) punctuators.Bar (
+    cond (eqb n 63) punctuators.Question (
+    cond (eqb n 58) punctuators.Colon (
+    cond (eqb n 59) punctuators.Semicolon (
+    cond (eqb n 61) punctuators.Assign (
+    cond (eqb n 44) punctuators.Comma (
+    punctuators.Hash))))))))))))))))))))))))))))))))))))))))))))))))
+
+punctuator_at-text : (punctuator : Punctuator) → punctuator_at (number_of (punctuator_text punctuator)) ≡ punctuator
+punctuator_at-text punctuators.Ellipsis = refl
+punctuator_at-text punctuators.LeftShiftAssign = refl
+punctuator_at-text punctuators.RightShiftAssign = refl
+punctuator_at-text punctuators.Arrow = refl
+punctuator_at-text punctuators.Increment = refl
+punctuator_at-text punctuators.Decrement = refl
+punctuator_at-text punctuators.LeftShift = refl
+punctuator_at-text punctuators.RightShift = refl
+punctuator_at-text punctuators.LessOrEqual = refl
+punctuator_at-text punctuators.GreaterOrEqual = refl
+punctuator_at-text punctuators.Equal = refl
+punctuator_at-text punctuators.NotEqual = refl
+punctuator_at-text punctuators.LogicalAnd = refl
+punctuator_at-text punctuators.LogicalOr = refl
+punctuator_at-text punctuators.MultiplyAssign = refl
+punctuator_at-text punctuators.DivideAssign = refl
+punctuator_at-text punctuators.RemainderAssign = refl
+punctuator_at-text punctuators.AddAssign = refl
+punctuator_at-text punctuators.SubtractAssign = refl
+punctuator_at-text punctuators.AndAssign = refl
+punctuator_at-text punctuators.XorAssign = refl
+punctuator_at-text punctuators.OrAssign = refl
+punctuator_at-text punctuators.HashHash = refl
+punctuator_at-text punctuators.DoubleColon = refl
+punctuator_at-text punctuators.OpenBracket = refl
+punctuator_at-text punctuators.CloseBracket = refl
+punctuator_at-text punctuators.OpenParenthesis = refl
+punctuator_at-text punctuators.CloseParenthesis = refl
+punctuator_at-text punctuators.OpenBrace = refl
+punctuator_at-text punctuators.CloseBrace = refl
+punctuator_at-text punctuators.Point = refl
+punctuator_at-text punctuators.Ampersand = refl
+punctuator_at-text punctuators.Star = refl
+punctuator_at-text punctuators.Plus = refl
+punctuator_at-text punctuators.Minus = refl
+punctuator_at-text punctuators.Tilde = refl
+punctuator_at-text punctuators.Exclamation = refl
+punctuator_at-text punctuators.Slash = refl
+punctuator_at-text punctuators.Percent = refl
+punctuator_at-text punctuators.Less = refl
+punctuator_at-text punctuators.Greater = refl
+punctuator_at-text punctuators.Caret = refl
+punctuator_at-text punctuators.Bar = refl
+punctuator_at-text punctuators.Question = refl
+punctuator_at-text punctuators.Colon = refl
+punctuator_at-text punctuators.Semicolon = refl
+punctuator_at-text punctuators.Assign = refl
+punctuator_at-text punctuators.Comma = refl
+punctuator_at-text punctuators.Hash = refl
+
+pub punctuator_text_injective : (p q : Punctuator) → punctuator_text p ≡ punctuator_text q → p ≡ q
+punctuator_text_injective p q same = sym (punctuator_at-text p) ∙ ap (λ text. punctuator_at (number_of text)) same ∙ punctuator_at-text q
+
+abbrev pub all_punctuators : List Punctuator
+all_punctuators = punctuators.Ellipsis ∷ punctuators.LeftShiftAssign ∷ punctuators.RightShiftAssign ∷ punctuators.Arrow ∷ punctuators.Increment ∷ punctuators.Decrement ∷ punctuators.LeftShift ∷ punctuators.RightShift ∷ punctuators.LessOrEqual ∷ punctuators.GreaterOrEqual ∷ punctuators.Equal ∷ punctuators.NotEqual ∷ punctuators.LogicalAnd ∷ punctuators.LogicalOr ∷ punctuators.MultiplyAssign ∷ punctuators.DivideAssign ∷ punctuators.RemainderAssign ∷ punctuators.AddAssign ∷ punctuators.SubtractAssign ∷ punctuators.AndAssign ∷ punctuators.XorAssign ∷ punctuators.OrAssign ∷ punctuators.HashHash ∷ punctuators.DoubleColon ∷ punctuators.OpenBracket ∷ punctuators.CloseBracket ∷ punctuators.OpenParenthesis ∷ punctuators.CloseParenthesis ∷ punctuators.OpenBrace ∷ punctuators.CloseBrace ∷ punctuators.Point ∷ punctuators.Ampersand ∷ punctuators.Star ∷ punctuators.Plus ∷ punctuators.Minus ∷ punctuators.Tilde ∷ punctuators.Exclamation ∷ punctuators.Slash ∷ punctuators.Percent ∷ punctuators.Less ∷ punctuators.Greater ∷ punctuators.Caret ∷ punctuators.Bar ∷ punctuators.Question ∷ punctuators.Colon ∷ punctuators.Semicolon ∷ punctuators.Assign ∷ punctuators.Comma ∷ punctuators.Hash ∷ []
+
+-- where it stands among all
+abbrev pub place_of : Punctuator → ℕ
+place_of punctuators.Ellipsis = 0
+place_of punctuators.LeftShiftAssign = 1
+place_of punctuators.RightShiftAssign = 2
+place_of punctuators.Arrow = 3
+place_of punctuators.Increment = 4
+place_of punctuators.Decrement = 5
+place_of punctuators.LeftShift = 6
+place_of punctuators.RightShift = 7
+place_of punctuators.LessOrEqual = 8
+place_of punctuators.GreaterOrEqual = 9
+place_of punctuators.Equal = 10
+place_of punctuators.NotEqual = 11
+place_of punctuators.LogicalAnd = 12
+place_of punctuators.LogicalOr = 13
+place_of punctuators.MultiplyAssign = 14
+place_of punctuators.DivideAssign = 15
+place_of punctuators.RemainderAssign = 16
+place_of punctuators.AddAssign = 17
+place_of punctuators.SubtractAssign = 18
+place_of punctuators.AndAssign = 19
+place_of punctuators.XorAssign = 20
+place_of punctuators.OrAssign = 21
+place_of punctuators.HashHash = 22
+place_of punctuators.DoubleColon = 23
+place_of punctuators.OpenBracket = 24
+place_of punctuators.CloseBracket = 25
+place_of punctuators.OpenParenthesis = 26
+place_of punctuators.CloseParenthesis = 27
+place_of punctuators.OpenBrace = 28
+place_of punctuators.CloseBrace = 29
+place_of punctuators.Point = 30
+place_of punctuators.Ampersand = 31
+place_of punctuators.Star = 32
+place_of punctuators.Plus = 33
+place_of punctuators.Minus = 34
+place_of punctuators.Tilde = 35
+place_of punctuators.Exclamation = 36
+place_of punctuators.Slash = 37
+place_of punctuators.Percent = 38
+place_of punctuators.Less = 39
+place_of punctuators.Greater = 40
+place_of punctuators.Caret = 41
+place_of punctuators.Bar = 42
+place_of punctuators.Question = 43
+place_of punctuators.Colon = 44
+place_of punctuators.Semicolon = 45
+place_of punctuators.Assign = 46
+place_of punctuators.Comma = 47
+place_of punctuators.Hash = 48
+
+-- how long the one at a place is
+abbrev pub size_at : ℕ → ℕ
+size_at place = cond (ltb place 3) 3 (cond (ltb place 24) 2 1)
+
+pub size_at-place_of : (punctuator : Punctuator) → length (punctuator_text punctuator) ≡ size_at (place_of punctuator)
+size_at-place_of punctuators.Ellipsis = refl
+size_at-place_of punctuators.LeftShiftAssign = refl
+size_at-place_of punctuators.RightShiftAssign = refl
+size_at-place_of punctuators.Arrow = refl
+size_at-place_of punctuators.Increment = refl
+size_at-place_of punctuators.Decrement = refl
+size_at-place_of punctuators.LeftShift = refl
+size_at-place_of punctuators.RightShift = refl
+size_at-place_of punctuators.LessOrEqual = refl
+size_at-place_of punctuators.GreaterOrEqual = refl
+size_at-place_of punctuators.Equal = refl
+size_at-place_of punctuators.NotEqual = refl
+size_at-place_of punctuators.LogicalAnd = refl
+size_at-place_of punctuators.LogicalOr = refl
+size_at-place_of punctuators.MultiplyAssign = refl
+size_at-place_of punctuators.DivideAssign = refl
+size_at-place_of punctuators.RemainderAssign = refl
+size_at-place_of punctuators.AddAssign = refl
+size_at-place_of punctuators.SubtractAssign = refl
+size_at-place_of punctuators.AndAssign = refl
+size_at-place_of punctuators.XorAssign = refl
+size_at-place_of punctuators.OrAssign = refl
+size_at-place_of punctuators.HashHash = refl
+size_at-place_of punctuators.DoubleColon = refl
+size_at-place_of punctuators.OpenBracket = refl
+size_at-place_of punctuators.CloseBracket = refl
+size_at-place_of punctuators.OpenParenthesis = refl
+size_at-place_of punctuators.CloseParenthesis = refl
+size_at-place_of punctuators.OpenBrace = refl
+size_at-place_of punctuators.CloseBrace = refl
+size_at-place_of punctuators.Point = refl
+size_at-place_of punctuators.Ampersand = refl
+size_at-place_of punctuators.Star = refl
+size_at-place_of punctuators.Plus = refl
+size_at-place_of punctuators.Minus = refl
+size_at-place_of punctuators.Tilde = refl
+size_at-place_of punctuators.Exclamation = refl
+size_at-place_of punctuators.Slash = refl
+size_at-place_of punctuators.Percent = refl
+size_at-place_of punctuators.Less = refl
+size_at-place_of punctuators.Greater = refl
+size_at-place_of punctuators.Caret = refl
+size_at-place_of punctuators.Bar = refl
+size_at-place_of punctuators.Question = refl
+size_at-place_of punctuators.Colon = refl
+size_at-place_of punctuators.Semicolon = refl
+size_at-place_of punctuators.Assign = refl
+size_at-place_of punctuators.Comma = refl
+size_at-place_of punctuators.Hash = refl
+
+pub get_or-place_of : (punctuator d : Punctuator) → get_or all_punctuators (place_of punctuator) d ≡ punctuator
+get_or-place_of punctuators.Ellipsis d = refl
+get_or-place_of punctuators.LeftShiftAssign d = refl
+get_or-place_of punctuators.RightShiftAssign d = refl
+get_or-place_of punctuators.Arrow d = refl
+get_or-place_of punctuators.Increment d = refl
+get_or-place_of punctuators.Decrement d = refl
+get_or-place_of punctuators.LeftShift d = refl
+get_or-place_of punctuators.RightShift d = refl
+get_or-place_of punctuators.LessOrEqual d = refl
+get_or-place_of punctuators.GreaterOrEqual d = refl
+get_or-place_of punctuators.Equal d = refl
+get_or-place_of punctuators.NotEqual d = refl
+get_or-place_of punctuators.LogicalAnd d = refl
+get_or-place_of punctuators.LogicalOr d = refl
+get_or-place_of punctuators.MultiplyAssign d = refl
+get_or-place_of punctuators.DivideAssign d = refl
+get_or-place_of punctuators.RemainderAssign d = refl
+get_or-place_of punctuators.AddAssign d = refl
+get_or-place_of punctuators.SubtractAssign d = refl
+get_or-place_of punctuators.AndAssign d = refl
+get_or-place_of punctuators.XorAssign d = refl
+get_or-place_of punctuators.OrAssign d = refl
+get_or-place_of punctuators.HashHash d = refl
+get_or-place_of punctuators.DoubleColon d = refl
+get_or-place_of punctuators.OpenBracket d = refl
+get_or-place_of punctuators.CloseBracket d = refl
+get_or-place_of punctuators.OpenParenthesis d = refl
+get_or-place_of punctuators.CloseParenthesis d = refl
+get_or-place_of punctuators.OpenBrace d = refl
+get_or-place_of punctuators.CloseBrace d = refl
+get_or-place_of punctuators.Point d = refl
+get_or-place_of punctuators.Ampersand d = refl
+get_or-place_of punctuators.Star d = refl
+get_or-place_of punctuators.Plus d = refl
+get_or-place_of punctuators.Minus d = refl
+get_or-place_of punctuators.Tilde d = refl
+get_or-place_of punctuators.Exclamation d = refl
+get_or-place_of punctuators.Slash d = refl
+get_or-place_of punctuators.Percent d = refl
+get_or-place_of punctuators.Less d = refl
+get_or-place_of punctuators.Greater d = refl
+get_or-place_of punctuators.Caret d = refl
+get_or-place_of punctuators.Bar d = refl
+get_or-place_of punctuators.Question d = refl
+get_or-place_of punctuators.Colon d = refl
+get_or-place_of punctuators.Semicolon d = refl
+get_or-place_of punctuators.Assign d = refl
+get_or-place_of punctuators.Comma d = refl
+get_or-place_of punctuators.Hash d = refl
+
+pub place_of-lt : (punctuator : Punctuator) → ltb (place_of punctuator) 49 ≡ true
+place_of-lt punctuators.Ellipsis = refl
+place_of-lt punctuators.LeftShiftAssign = refl
+place_of-lt punctuators.RightShiftAssign = refl
+place_of-lt punctuators.Arrow = refl
+place_of-lt punctuators.Increment = refl
+place_of-lt punctuators.Decrement = refl
+place_of-lt punctuators.LeftShift = refl
+place_of-lt punctuators.RightShift = refl
+place_of-lt punctuators.LessOrEqual = refl
+place_of-lt punctuators.GreaterOrEqual = refl
+place_of-lt punctuators.Equal = refl
+place_of-lt punctuators.NotEqual = refl
+place_of-lt punctuators.LogicalAnd = refl
+place_of-lt punctuators.LogicalOr = refl
+place_of-lt punctuators.MultiplyAssign = refl
+place_of-lt punctuators.DivideAssign = refl
+place_of-lt punctuators.RemainderAssign = refl
+place_of-lt punctuators.AddAssign = refl
+place_of-lt punctuators.SubtractAssign = refl
+place_of-lt punctuators.AndAssign = refl
+place_of-lt punctuators.XorAssign = refl
+place_of-lt punctuators.OrAssign = refl
+place_of-lt punctuators.HashHash = refl
+place_of-lt punctuators.DoubleColon = refl
+place_of-lt punctuators.OpenBracket = refl
+place_of-lt punctuators.CloseBracket = refl
+place_of-lt punctuators.OpenParenthesis = refl
+place_of-lt punctuators.CloseParenthesis = refl
+place_of-lt punctuators.OpenBrace = refl
+place_of-lt punctuators.CloseBrace = refl
+place_of-lt punctuators.Point = refl
+place_of-lt punctuators.Ampersand = refl
+place_of-lt punctuators.Star = refl
+place_of-lt punctuators.Plus = refl
+place_of-lt punctuators.Minus = refl
+place_of-lt punctuators.Tilde = refl
+place_of-lt punctuators.Exclamation = refl
+place_of-lt punctuators.Slash = refl
+place_of-lt punctuators.Percent = refl
+place_of-lt punctuators.Less = refl
+place_of-lt punctuators.Greater = refl
+place_of-lt punctuators.Caret = refl
+place_of-lt punctuators.Bar = refl
+place_of-lt punctuators.Question = refl
+place_of-lt punctuators.Colon = refl
+place_of-lt punctuators.Semicolon = refl
+place_of-lt punctuators.Assign = refl
+place_of-lt punctuators.Comma = refl
+place_of-lt punctuators.Hash = refl
