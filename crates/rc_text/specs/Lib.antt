@@ -1,9 +1,11 @@
 pub mod Faults
 pub mod Got
+pub mod Known
+pub mod LastCall
 pub mod Lines
 pub mod MemoryShelf
+pub mod MemorySink
 pub mod Places
 pub mod ReadWhole
 pub mod Shelf
 pub mod Sink
-pub mod WriteWhole

@@ -1,4 +1,4 @@
--- Lines as a text.
+-- Lines as a text. This project's own.
 use Rattle.std.specs.Prelude.{ℕ, List, [], ◌∷◌, ◌++◌}
 
 -- each line ends with a line feed

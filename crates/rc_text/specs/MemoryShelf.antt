@@ -1,4 +1,4 @@
--- The files of a shelf in memory.
+-- The files of a shelf in memory, and when it fails. This project's own.
 use Rattle.std.specs.Prelude.{◌≡◌, ◌⊎◌, ℕ, Contains, List, [], ◌∷◌, drop, slice_get, Option, Some, None, if◌then◌else◌}
 use Rattle.rc_text.specs.declared.memory_shelf.MemoryShelf.{MemoryShelf}
 use Rattle.std.specs.Str.{bytes_eq}

@@ -1,4 +1,4 @@
--- Where a byte stands in a file.
+-- Where a byte stands in a file. This project's own.
 use Rattle.std.specs.Prelude.{ℕ, ◌+◌, List, length, ◌==◌, count_by}
 use Rattle.std.specs.List.{after_last}
 use Rattle.rc_text.specs.declared.place.Place.{Place}

@@ -1,18 +1,10 @@
--- What a shelf's calls do to what it tells.
-use Rattle.std.specs.Prelude.{◌≡◌, ℕ, ◌≤◌, ◌<◌, ◌↔◌, List, [], length, take, drop, Option, IfSome}
+-- What a shelf's calls do to what it tells. This project's own.
+use Rattle.std.specs.Prelude.{◌≡◌, ℕ, ◌≤◌, ◌<◌, ◌↔◌, List, [], ◌∷◌, ◌++◌, length, take, drop, Option, IfSome}
 use Rattle.std.specs.Option.{option_map}
-use Rattle.rc_text.specs.declared.shelf.Opened.{Opened as Answer}
-use Rattle.rc_text.specs.declared.shelf.Opened.TheVariants as answers
 
--- P holds, if the name was opened
-abbrev pub OnOpened : Answer → Type 0 → Type 0
-OnOpened answers.Opened P = P
-OnOpened answers.Failed P = Unit {0}
-
--- P holds, if it was not
-abbrev pub OnClosed : Answer → Type 0 → Type 0
-OnClosed answers.Opened P = Unit {0}
-OnClosed answers.Failed P = P
+-- the names asked for before, and then this one, where the shelf tells them
+abbrev pub asked_for : Option (List (List ℕ)) → List ℕ → Option (List (List ℕ))
+asked_for asked name = option_map (λ names. names ++ name ∷ []) asked
 
 -- The first count bytes that were left now stand at the front of the slice, and the others are left. A count of 0
 -- into a slice that has room comes exactly where nothing was left.

@@ -1,4 +1,4 @@
--- What stands on a sink.
+-- What stands on a sink. This project's own.
 use Rattle.std.specs.Prelude.{◌≡◌, ℕ, ◌<◌, List, ◌++◌, length, take, Option}
 use Rattle.std.specs.Option.{option_map}
 

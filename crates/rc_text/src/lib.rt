@@ -1,7 +1,8 @@
 //! Text, places and the outside world. A layer above reads a named file whole by `read_whole` over a
-//! `Shelf`, writes by `write_whole` to a `Sink`, and learns from the counts of faults why one failed.
+//! `Shelf`, writes by `write_whole` to a `Sink`, and learns from the last call and the count of faults why one failed.
 #![tactic(auto)]
 
+mod answer;
 mod bytes;
 mod calls;
 mod lines;
@@ -19,9 +20,10 @@ mod tests;
 mod text;
 mod writing;
 
+pub use answer::{Got, LastCall, Opened};
 pub use bytes::Bytes;
 pub use calls::LARGEST_PIECE;
-pub use lines::Lines;
+pub use lines::joined_lines;
 pub use memory::NoMemory;
 pub use memory_shelf::MemoryShelf;
 pub use memory_sink::MemorySink;
@@ -29,7 +31,7 @@ pub use os_shelf::OsShelf;
 pub use os_sink::OsSink;
 pub use place::Place;
 pub use reading::{ReadRefusal, read_whole};
-pub use shelf::{Got, Opened, Shelf};
+pub use shelf::Shelf;
 pub use sink::Sink;
 pub use text::Text;
 pub use writing::{Wrote, write_whole};

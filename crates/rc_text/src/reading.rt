@@ -1,10 +1,13 @@
-ghost use Rattle.std.specs.Prelude.{◌≡◌, ◌<◌, ◌≤◌, IfOk, length, IfSome};
-ghost use Rattle.rc_text.specs.Faults.{HasCause, last_fault};
-ghost use Rattle.rc_text.specs.ReadWhole.{OnRead, OnShelfFailed, ReadsWithin};
+ghost use Rattle.std.specs.Prelude.{◌≡◌, ◌≢◌, ◌<◌, ◌≤◌, IfOk, IfSome, length};
+ghost use Rattle.rc_text.specs.Faults.{faults_after};
+ghost use Rattle.rc_text.specs.ReadWhole.{last_call_of};
+ghost use Rattle.rc_text.specs.Shelf.{asked_for};
+ghost use Rattle.rc_text.specs.declared.answer.LastCall.TheVariants.{Answered};
 
+use crate::answer::{Got, Opened};
 use crate::bytes::Bytes;
 use crate::memory::NoMemory;
-use crate::shelf::{Got, Opened, Shelf};
+use crate::shelf::Shelf;
 use std::alloc::Global;
 use thiserror::Error;
 
@@ -38,21 +41,24 @@ impl From<NoMemory> for ReadRefusal {
 /// How many bytes one read asks for.
 const PIECE: usize = 4096;
 
-/// Reads the whole file of a name, of at most `limit` bytes. `CannotOpen` and `ReadFault` come only
-/// where a call of the shelf failed, and its first failure ends the reading.
+/// Reads the whole file of a name, of at most `limit` bytes. It asks the shelf for that name, once.
+/// `CannotOpen` comes where the opening failed, `ReadFault` where a read did, and the first failure is
+/// the shelf's last call.
 pub fn read_whole<H: Shelf>(
     alloc: Global,
     shelf: &mut H,
     name: &str,
     limit: u32,
 ) -> Result<Bytes, ReadRefusal>
-    ensures content { IfSome (H.holds shelf.old name.now) (ReadsWithin limit result) }
+    ensures content { IfOk result (λ bytes. IfSome (H.holds shelf.old name.now) (λ content. bytes ≡ content)) }
     ensures within { IfOk result (λ bytes. length bytes ≤ limit) }
+    ensures too_long { result ≡ Err ReadRefusal.TooLong
+        → IfSome (H.holds shelf.old name.now) (λ content. limit < length content) }
+    ensures unopened { result ≡ Err ReadRefusal.CannotOpen → H.left shelf.new ≡ H.left shelf.old }
     ensures holds { H.holds shelf.new ≡ H.holds shelf.old }
-    ensures quiet { OnRead result (H.faults shelf.new ≡ H.faults shelf.old) }
-    ensures cause { OnShelfFailed result (HasCause (H.faults shelf.old) (H.faults shelf.new)) }
-    ensures rising { H.faults shelf.old ≤ H.faults shelf.new }
-    ensures bounded { H.faults shelf.new ≤ last_fault }
+    ensures asked { H.asked shelf.new ≡ asked_for (H.asked shelf.old) name.now }
+    ensures last { H.last shelf.new ≡ last_call_of result }
+    ensures faults { H.faults shelf.new ≡ faults_after (last_call_of result) (H.faults shelf.old) }
 {
     match shelf.open_name(name) {
         Opened::Failed => Err(ReadRefusal::CannotOpen),
@@ -62,13 +68,15 @@ pub fn read_whole<H: Shelf>(
 
 /// Reads what is left of the open file.
 fn read_rest<H: Shelf>(alloc: Global, shelf: &mut H, limit: u32) -> Result<Bytes, ReadRefusal>
-    ensures content { IfSome (H.left shelf.old) (ReadsWithin limit result) }
+    requires { H.last shelf.old ≡ Answered }
+    ensures content { IfOk result (λ bytes. IfSome (H.left shelf.old) (λ left. bytes ≡ left)) }
     ensures within { IfOk result (λ bytes. length bytes ≤ limit) }
+    ensures too_long { result ≡ Err ReadRefusal.TooLong → IfSome (H.left shelf.old) (λ left. limit < length left) }
+    ensures opened { result ≢ Err ReadRefusal.CannotOpen }
     ensures holds { H.holds shelf.new ≡ H.holds shelf.old }
-    ensures quiet { OnRead result (H.faults shelf.new ≡ H.faults shelf.old) }
-    ensures cause { OnShelfFailed result (HasCause (H.faults shelf.old) (H.faults shelf.new)) }
-    ensures rising { H.faults shelf.old ≤ H.faults shelf.new }
-    ensures bounded { H.faults shelf.old ≤ last_fault → H.faults shelf.new ≤ last_fault }
+    ensures asked { H.asked shelf.new ≡ H.asked shelf.old }
+    ensures last { H.last shelf.new ≡ last_call_of result }
+    ensures faults { H.faults shelf.new ≡ faults_after (last_call_of result) (H.faults shelf.old) }
 {
     let mut bytes = Bytes::new(alloc);
     let mut piece = [0; PIECE];

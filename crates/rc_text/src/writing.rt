@@ -1,9 +1,9 @@
-ghost use Rattle.std.specs.Prelude.{◌≡◌, ◌<◌, ◌≤◌, ◌↔◌};
-ghost use Rattle.rc_text.specs.Faults.{Rose, HasCause, last_fault};
+ghost use Rattle.std.specs.Prelude.{◌≡◌, ◌<◌, ◌≤◌, length};
+ghost use Rattle.rc_text.specs.Faults.{one_more};
 ghost use Rattle.rc_text.specs.Sink.{appended, WrotePrefix};
-ghost use Rattle.rc_text.specs.WriteWhole.{OnWhole, OnFault};
+ghost use Rattle.rc_text.specs.declared.answer.LastCall.TheVariants.{Answered, FailedWriting};
 
-use crate::shelf::Got;
+use crate::answer::Got;
 use crate::sink::Sink;
 
 /// Whether a text was written whole.
@@ -13,14 +13,14 @@ pub enum Wrote {
     Fault,
 }
 
-/// Writes a text whole, in as many calls as the sink needs. It stops at the first call that fails.
+/// Writes a text whole, in as many calls as the sink needs. The first call that fails is the last one.
 pub fn write_whole<O: Sink>(sink: &mut O, text: &[u8]) -> Wrote
-    ensures whole { OnWhole result (O.written sink.new ≡ appended (O.written sink.old) text.now) }
-    ensures quiet { OnWhole result (O.faults sink.new ≡ O.faults sink.old) }
-    ensures prefix { OnFault result (WrotePrefix (O.written sink.old) (O.written sink.new) text.now) }
-    ensures cause { OnFault result (HasCause (O.faults sink.old) (O.faults sink.new)) }
-    ensures rising { O.faults sink.old ≤ O.faults sink.new }
-    ensures bounded { O.faults sink.old ≤ last_fault → O.faults sink.new ≤ last_fault }
+    ensures whole { result ≡ Wrote.Whole → O.written sink.new ≡ appended (O.written sink.old) text.now }
+    ensures answered { result ≡ Wrote.Whole → 0 < length text.now → O.last sink.new ≡ Answered }
+    ensures quiet { result ≡ Wrote.Whole → O.faults sink.new ≡ O.faults sink.old }
+    ensures prefix { result ≡ Wrote.Fault → WrotePrefix (O.written sink.old) (O.written sink.new) text.now }
+    ensures failed { result ≡ Wrote.Fault → O.last sink.new ≡ FailedWriting }
+    ensures counted { result ≡ Wrote.Fault → O.faults sink.new ≡ one_more (O.faults sink.old) }
 {
     let mut done = 0;
     while done < text.len() {

@@ -1,6 +1,6 @@
 use Rattle.std.proofs.Common.{◌≡◌, drop, ◌++◌}
 use Rattle.rc_text.specs.Lines.{text_of}
-use Rattle.rc_text.proofs.lines.joined.Given as goal
+use Rattle.rc_text.proofs.lines.joined_lines.Given as goal
 
 -- the text so far and that of the lines to come are that of all lines
 abbrev pub invariant-loop-line : goal.invariant-loop-line
