@@ -35,4 +35,5 @@ is_string_byte b = not (b == 34) && not (b == 10)
 
 -- a byte that stands for itself between single quotes: no quote, no backslash, and what a line of text may have
 abbrev pub is_character_byte : ℕ → Bool
-is_character_byte b = not (b == 39) && not (b == 92) && ((nat_le 32 b && nat_le b 126) || (b == 9) || (b == 12) || (b == 13))
+is_character_byte b = not (b == 39) && not (b == 92)
+    && ((nat_le 32 b && nat_le b 126) || (b == 9) || (b == 12) || (b == 13))

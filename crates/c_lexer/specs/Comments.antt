@@ -1,5 +1,6 @@
 -- Comments, and what may stand between the parts of a directive (C11 6.4.9, 6.10).
-use Rattle.std.specs.Prelude.{◌≡◌, ◌≢◌, ℕ, zero, suc, ◌+◌, ◌<◌, ◌≤◌, Bool, true, ◌==◌, IsTrue, List, [], ◌∷◌, ◌++◌, length, slice_index, ◌⊎◌}
+use Rattle.std.specs.Prelude.{◌≡◌, ◌≢◌, ℕ, zero, suc, ◌+◌, ◌<◌, ◌≤◌, Bool, true, ◌==◌, IsTrue, List, [], ◌∷◌, ◌++◌}
+use Rattle.std.specs.Prelude.{length, slice_index, ◌⊎◌}
 use Rattle.std.specs.List.{list_all}
 use Rattle.c_lexer.specs.Bytes.{is_blank, is_line_byte}
 
@@ -27,11 +28,13 @@ IsLineComment bytes = (inside : List ℕ) × IsTrue (list_all is_line_byte insid
 
 -- a comment begins the bytes; the second kind goes to the line's end
 abbrev pub CommentBegins : List ℕ → List ℕ → List ℕ → Type 0
-CommentBegins bytes text rest = (bytes ≡ text ++ rest) × (IsBlockComment text ⊎ (IsLineComment text × IsTrue (is_line_end rest)))
+CommentBegins bytes text rest = (bytes ≡ text ++ rest)
+    × (IsBlockComment text ⊎ (IsLineComment text × IsTrue (is_line_end rest)))
 
 -- a blank within the line, or a comment, begins the bytes
 abbrev pub GapBegins : List ℕ → List ℕ → Type 0
-GapBegins bytes rest = ((b : ℕ) × IsTrue (is_blank b) × (b ≢ 10) × (bytes ≡ b ∷ rest)) ⊎ ((text : List ℕ) × CommentBegins bytes text rest)
+GapBegins bytes rest = ((b : ℕ) × IsTrue (is_blank b) × (b ≢ 10) × (bytes ≡ b ∷ rest))
+    ⊎ ((text : List ℕ) × CommentBegins bytes text rest)
 
 -- n blanks and comments begin the bytes
 abbrev pub IsGap : ℕ → List ℕ → List ℕ → Type 0

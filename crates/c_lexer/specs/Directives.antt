@@ -1,5 +1,6 @@
 -- Directives (C11 6.10): which are read, and what they define.
-use Rattle.std.specs.Prelude.{◌≡◌, ℕ, Bool, true, false, IsTrue, List, ◌∷◌, ◌++◌, codes, Option, Some, None, if◌then◌else◌}
+use Rattle.std.specs.Prelude.{◌≡◌, ℕ, Bool, true, false, IsTrue, List, ◌∷◌, ◌++◌, codes, Option, Some, None}
+use Rattle.std.specs.Prelude.{if◌then◌else◌}
 use Rattle.std.specs.Str.{bytes_eq}
 use Rattle.c_lexer.specs.declared.header.Header.{Header}
 use Rattle.c_lexer.specs.declared.header.Header.TheVariants as headers
@@ -71,16 +72,20 @@ DirectiveBegins bytes (Define name kind) rest = (after : List ℕ) × (bytes ≡
 
 -- the identifier or keyword behind a `#`, where there is one
 abbrev pub HasName : List ℕ → Option (List ℕ) → Type 0
-HasName bytes (Some name) = (kind : TokenKind) × (rest : List ℕ) × TokenBehindGap bytes kind name rest × IsTrue (is_word name)
-HasName bytes None = (kind : TokenKind) (name rest : List ℕ) → TokenBehindGap bytes kind name rest → IsTrue (is_word name) → ⊥
+HasName bytes (Some name) = (kind : TokenKind) × (rest : List ℕ) × TokenBehindGap bytes kind name rest
+    × IsTrue (is_word name)
+HasName bytes None = (kind : TokenKind) (name rest : List ℕ) → TokenBehindGap bytes kind name rest
+    → IsTrue (is_word name) → ⊥
 
 -- what a header's macros stand for; the other names that it gives are no macros
 abbrev pub header_macro : Header → List ℕ → Option TokenKind
 header_macro headers.Stddef name = if bytes_eq (codes "NULL") name then Some kinds.NullPointer else None
 header_macro headers.Stdbool name =
     if bytes_eq (codes "bool") name then Some (kinds.Keyword keywords.Bool)
-    else if bytes_eq (codes "true") name then Some (kinds.Integer (record { value = 1; base = bases.Decimal; suffix = suffixes.Plain }))
-    else if bytes_eq (codes "false") name then Some (kinds.Integer (record { value = 0; base = bases.Decimal; suffix = suffixes.Plain }))
+    else if bytes_eq (codes "true") name
+    then Some (kinds.Integer (record { value = 1; base = bases.Decimal; suffix = suffixes.Plain }))
+    else if bytes_eq (codes "false") name
+    then Some (kinds.Integer (record { value = 0; base = bases.Decimal; suffix = suffixes.Plain }))
     else None
 header_macro headers.Stdint name = None
 header_macro headers.Stdatomic name = None

@@ -1,6 +1,7 @@
 -- The elements of a file: blanks, comments, directives and tokens, each of which begins where the one before ends.
 -- A list of elements has the last first, so that each stands before the list of those that precede it.
-use Rattle.std.specs.Prelude.{◌≡◌, ◌≢◌, ℕ, Bool, true, false, ◌==◌, ◌||◌, IsTrue, List, [], ◌∷◌, ◌++◌, length, Option, Some, None}
+use Rattle.std.specs.Prelude.{◌≡◌, ◌≢◌, ℕ, Bool, true, false, ◌==◌, ◌||◌, IsTrue, List, [], ◌∷◌, ◌++◌, length, Option}
+use Rattle.std.specs.Prelude.{Some, None}
 use Rattle.std.specs.List.{list_any}
 use Rattle.rc_text.specs.Places.{place_after}
 use Rattle.c_lexer.specs.declared.token.Token.{Token}
@@ -46,8 +47,10 @@ is_fresh (element ∷ earlier) = is_fresh_after element.kind element.text (is_fr
 abbrev pub ElementBegins : Bool → List ℕ → Kind → List ℕ → List ℕ → Type 0
 ElementBegins fresh bytes Blank text rest = (b : ℕ) × IsTrue (is_blank b) × (text ≡ b ∷ []) × (bytes ≡ b ∷ rest)
 ElementBegins fresh bytes Comment text rest = CommentBegins bytes text rest
-ElementBegins fresh bytes (Line directive) text rest = IsTrue fresh × (bytes ≡ text ++ rest) × DirectiveBegins bytes directive rest
-ElementBegins fresh bytes (Lexed kind) text rest = Begins bytes kind text rest × (IsTrue fresh → kind ≢ kinds.Punctuator punctuators.Hash)
+ElementBegins fresh bytes (Line directive) text rest = IsTrue fresh × (bytes ≡ text ++ rest)
+    × DirectiveBegins bytes directive rest
+ElementBegins fresh bytes (Lexed kind) text rest = Begins bytes kind text rest
+    × (IsTrue fresh → kind ≢ kinds.Punctuator punctuators.Hash)
 
 -- no element begins the bytes
 abbrev pub NoElementBegins : Bool → List ℕ → Type 0
@@ -57,7 +60,8 @@ NoElementBegins fresh bytes = (kind : Kind) (text rest : List ℕ) → ElementBe
 abbrev pub AreElements : List ℕ → List Element → List ℕ → Type 0
 AreElements bytes [] rest = bytes ≡ rest
 AreElements bytes (element ∷ earlier) rest =
-    (from : List ℕ) × AreElements bytes earlier from × ElementBegins (is_fresh earlier) from element.kind element.text rest
+    (from : List ℕ) × AreElements bytes earlier from
+    × ElementBegins (is_fresh earlier) from element.kind element.text rest
 
 -- what a name stands for, by the last directive that defines it
 abbrev pub element_macro : Kind → List ℕ → Option TokenKind
@@ -91,14 +95,19 @@ replaced meaning kinds.NullPointer = kinds.NullPointer
 
 -- the token that an element is, if it is one, from what its text stands for and from the bytes before
 abbrev pub token_of : Kind → List ℕ → Option TokenKind → List ℕ → List Token
-token_of (Lexed kind) text meaning before = record { kind = replaced meaning kind; place = place_after before; text = text } ∷ []
+token_of (Lexed kind) text meaning before = record {
+  kind = replaced meaning kind;
+  place = place_after before;
+  text = text;
+} ∷ []
 token_of Blank text meaning before = []
 token_of Comment text meaning before = []
 token_of (Line directive) text meaning before = []
 
 abbrev pub tokens_of : List Element → List Token
 tokens_of [] = []
-tokens_of (element ∷ earlier) = tokens_of earlier ++ token_of element.kind element.text (macro_of earlier element.text) (bytes_of earlier)
+tokens_of (element ∷ earlier) = tokens_of earlier
+    ++ token_of element.kind element.text (macro_of earlier element.text) (bytes_of earlier)
 
 -- the header that a directive includes, if it does, and how many tokens stand before
 abbrev pub inclusion_by : Directive → ℕ → List Inclusion

@@ -1,11 +1,10 @@
 -- The tokens of a file, or its lexical fault: it has one or the other.
-use Rattle.std.specs.Prelude.{◌≡◌, ℕ, ◌<◌, ◌==◌, ◌||◌, IsTrue, List, [], ◌∷◌, length, slice_index, Result, Ok, Err}
+use Rattle.std.specs.Prelude.{◌≡◌, ℕ, ◌<◌, ◌==◌, ◌||◌, IsTrue, List, [], ◌∷◌, length, slice_index}
 use Rattle.rc_text.specs.Places.{place_after}
 use Rattle.c_lexer.specs.declared.fault.LexFaultKind.{LexFaultKind}
-use Rattle.c_lexer.specs.declared.fault.LexFaultKind.TheVariants.{BadByte, OpenComment, OpenString, BadNumber, Directive}
+use Rattle.c_lexer.specs.declared.fault.LexFaultKind.TheVariants.{BadByte, OpenComment, OpenString, BadNumber}
+use Rattle.c_lexer.specs.declared.fault.LexFaultKind.TheVariants.{Directive}
 use Rattle.c_lexer.specs.declared.fault.LexFault.{LexFault}
-use Rattle.c_lexer.specs.declared.fault.LexRefusal.{LexRefusal}
-use Rattle.c_lexer.specs.declared.fault.LexRefusal.TheVariants as refusals
 use Rattle.c_lexer.specs.Bytes.{is_bad_byte, is_digit}
 use Rattle.c_lexer.specs.Directives.{HasName}
 use Rattle.c_lexer.specs.TokenLists.{TokenLists}
@@ -14,7 +13,8 @@ use Rattle.c_lexer.specs.Elements.{Element, is_fresh, bytes_of, AreElements, NoE
 -- the elements of the whole file give these tokens and includes
 abbrev pub AreTokensOf : List ℕ → TokenLists → Type 0
 AreTokensOf bytes lists =
-    (elements : List Element) × AreElements bytes elements [] × (lists ≡ record { tokens = tokens_of elements; includes = includes_of elements })
+    (elements : List Element) × AreElements bytes elements []
+    × (lists ≡ record { tokens = tokens_of elements; includes = includes_of elements })
 
 -- What the bytes at which no element begins begin with: a bad byte, `/*`, a double quote, a digit or a quote, or a `#`.
 -- The first such place in a file is its fault.
@@ -39,17 +39,3 @@ IsFaultOf bytes fault = (elements : List Element) × (rest : List ℕ) × IsFaul
 -- the most tokens that a file may have
 abbrev pub token_limit : ℕ
 token_limit = 200000
-
--- P holds of the fault, if there is one
-abbrev pub IfFault : Result TokenLists LexRefusal → (LexFault → Type 0) → Type 0
-IfFault (Ok lists) P = Unit {0}
-IfFault (Err (refusals.Fault fault)) P = P fault
-IfFault (Err refusals.TokenLimit) P = Unit {0}
-IfFault (Err refusals.NoMemory) P = Unit {0}
-
--- P holds, if there are too many tokens
-abbrev pub IfTokenLimit : Result TokenLists LexRefusal → Type 0 → Type 0
-IfTokenLimit (Ok lists) P = Unit {0}
-IfTokenLimit (Err (refusals.Fault fault)) P = Unit {0}
-IfTokenLimit (Err refusals.TokenLimit) P = P
-IfTokenLimit (Err refusals.NoMemory) P = Unit {0}

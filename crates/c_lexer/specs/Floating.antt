@@ -1,5 +1,6 @@
 -- Floating constants: C11 6.4.4.2.
-use Rattle.std.specs.Prelude.{◌≡◌, ◌≢◌, ℕ, ◌+◌, ◌<◌, Bool, false, ◌==◌, ◌||◌, IsTrue, List, [], ◌∷◌, ◌++◌, codes, length, ◌⊎◌}
+use Rattle.std.specs.Prelude.{◌≡◌, ◌≢◌, ℕ, ◌+◌, ◌<◌, Bool, false, ◌==◌, ◌||◌, IsTrue, List, [], ◌∷◌, ◌++◌, codes}
+use Rattle.std.specs.Prelude.{length, ◌⊎◌}
 use Rattle.std.specs.List.{list_all}
 use Rattle.c_lexer.specs.declared.token.IntegerBase.{IntegerBase}
 use Rattle.c_lexer.specs.declared.token.IntegerBase.TheVariants.{Decimal, Octal, Hexadecimal}
@@ -51,7 +52,8 @@ IsDecimalFloating bytes = (scaled : IsScaled Decimal bytes) × ((scaled.point �
 
 -- a hexadecimal one has `0x` or `0X` before, and an exponent
 abbrev pub IsHexadecimalFloating : List ℕ → Type 0
-IsHexadecimalFloating bytes = (rest : List ℕ) × ((bytes ≡ codes "0x" ++ rest) ⊎ (bytes ≡ codes "0X" ++ rest)) × ((scaled : IsScaled Hexadecimal rest) × (scaled.exponent ≢ []))
+IsHexadecimalFloating bytes = (rest : List ℕ) × ((bytes ≡ codes "0x" ++ rest) ⊎ (bytes ≡ codes "0X" ++ rest))
+    × ((scaled : IsScaled Hexadecimal rest) × (scaled.exponent ≢ []))
 
 abbrev pub IsFloating : List ℕ → Type 0
 IsFloating bytes = IsDecimalFloating bytes ⊎ IsHexadecimalFloating bytes

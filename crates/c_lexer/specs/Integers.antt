@@ -1,11 +1,13 @@
 -- Integer constants: C11 6.4.4.1.
-use Rattle.std.specs.Prelude.{◌≡◌, ℕ, ◌^◌, ◌<◌, Bool, false, ◌==◌, ◌&&◌, ◌||◌, IsTrue, List, [], ◌∷◌, ◌++◌, codes, length, Option, Some, None, if◌then◌else◌, ◌⊎◌}
+use Rattle.std.specs.Prelude.{◌≡◌, ℕ, ◌^◌, ◌<◌, Bool, false, ◌==◌, ◌&&◌, ◌||◌, IsTrue, List, [], ◌∷◌, ◌++◌, codes}
+use Rattle.std.specs.Prelude.{length, Option, Some, None, if◌then◌else◌, ◌⊎◌}
 use Rattle.std.specs.List.{list_all}
 use Rattle.std.specs.Str.Parse.{digits_value}
 use Rattle.c_lexer.specs.declared.token.IntegerBase.{IntegerBase}
 use Rattle.c_lexer.specs.declared.token.IntegerBase.TheVariants.{Decimal, Octal, Hexadecimal}
 use Rattle.c_lexer.specs.declared.token.IntegerSuffix.{IntegerSuffix}
-use Rattle.c_lexer.specs.declared.token.IntegerSuffix.TheVariants.{Plain, Unsigned, Long, UnsignedLong, LongLong, UnsignedLongLong}
+use Rattle.c_lexer.specs.declared.token.IntegerSuffix.TheVariants.{Plain, Unsigned, Long, UnsignedLong, LongLong}
+use Rattle.c_lexer.specs.declared.token.IntegerSuffix.TheVariants.{UnsignedLongLong}
 use Rattle.c_lexer.specs.declared.token.IntegerConstant.{IntegerConstant}
 use Rattle.c_lexer.specs.Bytes.{is_digit, is_octal_digit, is_hexadecimal_digit}
 
@@ -32,8 +34,11 @@ is_l b = (b == 108) || (b == 76)
 abbrev pub suffix_of : List ℕ → Option IntegerSuffix
 suffix_of [] = Some Plain
 suffix_of (a ∷ []) = if is_u a then Some Unsigned else if is_l a then Some Long else None
-suffix_of (a ∷ b ∷ []) = if (is_u a && is_l b) || (is_l a && is_u b) then Some UnsignedLong else if is_l a && (a == b) then Some LongLong else None
-suffix_of (a ∷ b ∷ c ∷ []) = if (is_u a && is_l b && (b == c)) || (is_l a && (a == b) && is_u c) then Some UnsignedLongLong else None
+suffix_of (a ∷ b ∷ []) =
+    if (is_u a && is_l b) || (is_l a && is_u b) then Some UnsignedLong
+    else if is_l a && (a == b) then Some LongLong else None
+suffix_of (a ∷ b ∷ c ∷ []) =
+    if (is_u a && is_l b && (b == c)) || (is_l a && (a == b) && is_u c) then Some UnsignedLongLong else None
 suffix_of (a ∷ b ∷ c ∷ d ∷ rest) = None
 
 -- a zero stands before other digits

@@ -1,7 +1,13 @@
 -- How each keyword is spelled: C11 6.4.1, and `asm`.
 use Rattle.std.specs.Prelude.{ℕ, List, codes}
 use Rattle.c_lexer.specs.declared.keyword.Keyword.{Keyword}
-use Rattle.c_lexer.specs.declared.keyword.Keyword.TheVariants.{Auto, Break, Case, Char, Const, Continue, Default, Do, Double, Else, Enum, Extern, Float, For, Goto, If, Inline, Int, Long, Register, Restrict, Return, Short, Signed, Sizeof, Static, Struct, Switch, Typedef, Union, Unsigned, Void, Volatile, While, Alignas, Alignof, Atomic, Bool, Complex, Generic, Imaginary, Noreturn, StaticAssert, ThreadLocal, Asm}
+use Rattle.c_lexer.specs.declared.keyword.Keyword.TheVariants.{Auto, Break, Case, Char, Const, Continue, Default, Do}
+use Rattle.c_lexer.specs.declared.keyword.Keyword.TheVariants.{Double, Else, Enum, Extern, Float, For, Goto, If, Inline}
+use Rattle.c_lexer.specs.declared.keyword.Keyword.TheVariants.{Int, Long, Register, Restrict, Return, Short, Signed}
+use Rattle.c_lexer.specs.declared.keyword.Keyword.TheVariants.{Sizeof, Static, Struct, Switch, Typedef, Union, Unsigned}
+use Rattle.c_lexer.specs.declared.keyword.Keyword.TheVariants.{Void, Volatile, While, Alignas, Alignof, Atomic, Bool}
+use Rattle.c_lexer.specs.declared.keyword.Keyword.TheVariants.{Complex, Generic, Imaginary, Noreturn, StaticAssert}
+use Rattle.c_lexer.specs.declared.keyword.Keyword.TheVariants.{ThreadLocal, Asm}
 
 abbrev pub keyword_text : Keyword → List ℕ
 keyword_text Auto = codes "auto"

@@ -1,7 +1,18 @@
 -- How each punctuator is spelled: C11 6.4.6 without the digraphs, and `::`.
 use Rattle.std.specs.Prelude.{ℕ, List, codes}
 use Rattle.c_lexer.specs.declared.punctuator.Punctuator.{Punctuator}
-use Rattle.c_lexer.specs.declared.punctuator.Punctuator.TheVariants.{Ellipsis, LeftShiftAssign, RightShiftAssign, Arrow, Increment, Decrement, LeftShift, RightShift, LessOrEqual, GreaterOrEqual, Equal, NotEqual, LogicalAnd, LogicalOr, MultiplyAssign, DivideAssign, RemainderAssign, AddAssign, SubtractAssign, AndAssign, XorAssign, OrAssign, HashHash, DoubleColon, OpenBracket, CloseBracket, OpenParenthesis, CloseParenthesis, OpenBrace, CloseBrace, Point, Ampersand, Star, Plus, Minus, Tilde, Exclamation, Slash, Percent, Less, Greater, Caret, Bar, Question, Colon, Semicolon, Assign, Comma, Hash}
+use Rattle.c_lexer.specs.declared.punctuator.Punctuator.TheVariants.{Ellipsis, LeftShiftAssign, RightShiftAssign, Arrow}
+use Rattle.c_lexer.specs.declared.punctuator.Punctuator.TheVariants.{Increment, Decrement, LeftShift, RightShift}
+use Rattle.c_lexer.specs.declared.punctuator.Punctuator.TheVariants.{LessOrEqual, GreaterOrEqual, Equal, NotEqual}
+use Rattle.c_lexer.specs.declared.punctuator.Punctuator.TheVariants.{LogicalAnd, LogicalOr, MultiplyAssign}
+use Rattle.c_lexer.specs.declared.punctuator.Punctuator.TheVariants.{DivideAssign, RemainderAssign, AddAssign}
+use Rattle.c_lexer.specs.declared.punctuator.Punctuator.TheVariants.{SubtractAssign, AndAssign, XorAssign, OrAssign}
+use Rattle.c_lexer.specs.declared.punctuator.Punctuator.TheVariants.{HashHash, DoubleColon, OpenBracket, CloseBracket}
+use Rattle.c_lexer.specs.declared.punctuator.Punctuator.TheVariants.{OpenParenthesis, CloseParenthesis, OpenBrace}
+use Rattle.c_lexer.specs.declared.punctuator.Punctuator.TheVariants.{CloseBrace, Point, Ampersand, Star, Plus, Minus}
+use Rattle.c_lexer.specs.declared.punctuator.Punctuator.TheVariants.{Tilde, Exclamation, Slash, Percent, Less, Greater}
+use Rattle.c_lexer.specs.declared.punctuator.Punctuator.TheVariants.{Caret, Bar, Question, Colon, Semicolon, Assign}
+use Rattle.c_lexer.specs.declared.punctuator.Punctuator.TheVariants.{Comma, Hash}
 
 abbrev pub punctuator_text : Punctuator → List ℕ
 punctuator_text Ellipsis = codes "..."

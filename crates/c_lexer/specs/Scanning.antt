@@ -1,5 +1,7 @@
 -- What the functions of the lexer answer about the front of some bytes.
-use Rattle.std.specs.Prelude.{◌≡◌, ◌≢◌, ℕ, ◌+◌, ◌-◌, ◌<◌, ◌≤◌, ◌==◌, ◌||◌, Bool, true, false, ◌&&◌, nat_lt, IsTrue, List, [], ◌∷◌, ◌++◌, length, take, drop, slice_index, slice_range, Option, Some, None, Result, Ok, Err, MatchBool, ◌⊎◌}
+use Rattle.std.specs.Prelude.{◌≡◌, ◌≢◌, ℕ, ◌+◌, ◌-◌, ◌<◌, ◌≤◌, ◌==◌, ◌||◌, Bool, true, false, ◌&&◌, nat_lt, IsTrue}
+use Rattle.std.specs.Prelude.{List, [], ◌∷◌, ◌++◌, length, take, drop, slice_index, slice_range, Option, Some, None}
+use Rattle.std.specs.Prelude.{Result, Ok, Err, MatchBool, ◌⊎◌}
 use Rattle.c_lexer.specs.declared.punctuator.Punctuator.{Punctuator}
 use Rattle.c_lexer.specs.declared.header.Header.{Header}
 use Rattle.c_lexer.specs.declared.token.CharacterConstant.{CharacterConstant}
@@ -28,7 +30,8 @@ use Rattle.c_lexer.specs.Integers.{is_digit_of}
 use Rattle.c_lexer.specs.Floating.{is_floating_suffix, IsScaled}
 use Rattle.c_lexer.specs.Tokens.{Begins}
 use Rattle.c_lexer.specs.Comments.{CommentBegins, GapBegins, IsBehindGap}
-use Rattle.c_lexer.specs.Directives.{Directive, Include, Define, TokenBehindGap, EndsLine, IsInclude, IsDefine, DirectiveBegins, is_constant, header_text, HasName}
+use Rattle.c_lexer.specs.Directives.{Directive, Include, Define, TokenBehindGap, EndsLine, IsInclude, IsDefine}
+use Rattle.c_lexer.specs.Directives.{DirectiveBegins, is_constant, header_text, HasName}
 use Rattle.c_lexer.specs.Elements.{Kind, Blank, Comment, Line, Lexed, ElementBegins, NoElementBegins}
 
 -- no token begins the bytes
@@ -37,7 +40,8 @@ NoTokenBegins bytes = (kind : TokenKind) (spelling rest : List ℕ) → Begins b
 
 -- the longest front of which a property holds is n bytes long, or none is where n is 0
 abbrev pub IsLongest : (List ℕ → Type 0) → List ℕ → ℕ → Type 0
-IsLongest P bytes n = (n ≤ length bytes) × (0 < n → P (take n bytes)) × ((front rest : List ℕ) → bytes ≡ front ++ rest → P front → length front ≤ n)
+IsLongest P bytes n = (n ≤ length bytes) × (0 < n → P (take n bytes))
+    × ((front rest : List ℕ) → bytes ≡ front ++ rest → P front → length front ≤ n)
 
 -- how bytes begin that no token begins
 abbrev pub OpensAs : Unread → List ℕ → Type 0
@@ -57,20 +61,23 @@ OpensToken unreads.Directive bytes = ⊥
 
 -- the token that begins the bytes, or how they begin where none does
 abbrev pub IsScanned : List ℕ → Result Scanned Unread → Type 0
-IsScanned bytes (Ok scanned) = (scanned.length ≤ length bytes) × Begins bytes scanned.kind (take scanned.length bytes) (drop scanned.length bytes)
+IsScanned bytes (Ok scanned) = (scanned.length ≤ length bytes)
+    × Begins bytes scanned.kind (take scanned.length bytes) (drop scanned.length bytes)
 IsScanned bytes (Err unread) = NoTokenBegins bytes × OpensToken unread bytes
 
 -- the longest punctuator that begins the bytes, or none where none does
 abbrev pub IsAtFront : List ℕ → Option Punctuator → Type 0
 IsAtFront bytes (Some punctuator) =
     ((rest : List ℕ) × (bytes ≡ punctuator_text punctuator ++ rest))
-    × ((other : Punctuator) (rest : List ℕ) → bytes ≡ punctuator_text other ++ rest → length (punctuator_text other) ≤ length (punctuator_text punctuator))
+    × ((other : Punctuator) (rest : List ℕ) → bytes ≡ punctuator_text other ++ rest
+    → length (punctuator_text other) ≤ length (punctuator_text punctuator))
 IsAtFront bytes None = (punctuator : Punctuator) (rest : List ℕ) → bytes ≡ punctuator_text punctuator ++ rest → ⊥
 
 -- the character constant that begins the bytes
 abbrev pub IsQuoted : List ℕ → Option Quoted → Type 0
 IsQuoted bytes (Some quoted) = (quoted.length ≤ length bytes) × IsCharacter quoted.constant (take quoted.length bytes)
-IsQuoted bytes None = (constant : CharacterConstant) (front rest : List ℕ) → bytes ≡ front ++ rest → IsCharacter constant front → ⊥
+IsQuoted bytes None = (constant : CharacterConstant) (front rest : List ℕ) → bytes ≡ front ++ rest
+    → IsCharacter constant front → ⊥
 
 -- the comment that begins the bytes, by its length
 abbrev pub IsCommentLength : List ℕ → Option ℕ → Type 0
@@ -80,7 +87,8 @@ IsCommentLength bytes None = (text rest : List ℕ) → CommentBegins bytes text
 -- the token behind blanks and comments, by where it begins and ends
 abbrev pub IsLocated : List ℕ → Option Located → Type 0
 IsLocated bytes (Some located) =
-    (located.start ≤ located.end) × (located.end ≤ length bytes) × TokenBehindGap bytes located.kind (slice_range bytes located.start located.end) (drop located.end bytes)
+    (located.start ≤ located.end) × (located.end ≤ length bytes)
+    × TokenBehindGap bytes located.kind (slice_range bytes located.start located.end) (drop located.end bytes)
 IsLocated bytes None = (kind : TokenKind) (text rest : List ℕ) → TokenBehindGap bytes kind text rest → ⊥
 
 -- where the line ends, if nothing but blanks and comments comes before
@@ -91,7 +99,8 @@ IsLineEnd bytes None = (rest : List ℕ) → EndsLine bytes rest → ⊥
 -- the directive that was found in the bytes: a name stands where its place says
 abbrev pub directive_in : List ℕ → DirectiveKind → Directive
 directive_in bytes (directives.Include header) = Include header
-directive_in bytes (directives.Define definition) = Define (slice_range bytes definition.start definition.end) definition.kind
+directive_in bytes (directives.Define definition) =
+    Define (slice_range bytes definition.start definition.end) definition.kind
 
 -- what makes a directive stands behind its `#`
 abbrev pub FollowsHash : List ℕ → Directive → List ℕ → Type 0
@@ -105,7 +114,8 @@ AreWithin (directives.Define definition) n = (definition.start ≤ definition.en
 -- the directive whose `#` stands before the bytes
 abbrev pub IsDirectiveBody : List ℕ → Option FoundDirective → Type 0
 IsDirectiveBody bytes (Some found) =
-    (found.length ≤ length bytes) × AreWithin found.kind (length bytes) × FollowsHash bytes (directive_in bytes found.kind) (drop found.length bytes)
+    (found.length ≤ length bytes) × AreWithin found.kind (length bytes)
+    × FollowsHash bytes (directive_in bytes found.kind) (drop found.length bytes)
 IsDirectiveBody bytes None = (directive : Directive) (rest : List ℕ) → FollowsHash bytes directive rest → ⊥
 
 -- the element that was found, in bytes whose first is the `#` of a directive
@@ -152,8 +162,10 @@ abbrev pub IsSignificand : IntegerBase → List ℕ → Significand → Type 0
 IsSignificand base bytes significand =
     (significand.length ≤ length bytes)
     × MatchBool significand.pointed
-    ((prefix_len (is_digit_of base) bytes < length bytes) × (slice_index bytes (prefix_len (is_digit_of base) bytes) ≡ 46)
-    × (significand.digits ≡ prefix_len (is_digit_of base) bytes + prefix_len (is_digit_of base) (drop (prefix_len (is_digit_of base) bytes + 1) bytes))
+    ((prefix_len (is_digit_of base) bytes < length bytes)
+    × (slice_index bytes (prefix_len (is_digit_of base) bytes) ≡ 46)
+    × (significand.digits ≡ prefix_len (is_digit_of base) bytes + prefix_len (is_digit_of base)
+    (drop (prefix_len (is_digit_of base) bytes + 1) bytes))
     × (significand.length ≡ significand.digits + 1))
     ((prefix_len (is_digit_of base) bytes < length bytes → slice_index bytes (prefix_len (is_digit_of base) bytes) ≢ 46)
     × (significand.digits ≡ prefix_len (is_digit_of base) bytes) × (significand.length ≡ significand.digits))
@@ -213,10 +225,12 @@ IsIdentifierBehind bytes None = (text rest : List ℕ) → TokenBehindGap bytes 
 
 abbrev pub IsConstantBehind : List ℕ → Option Located → Type 0
 IsConstantBehind bytes (Some located) = IsTrue (is_constant located.kind) × IsLocated bytes (Some located)
-IsConstantBehind bytes None = (kind : TokenKind) (text rest : List ℕ) → IsTrue (is_constant kind) → TokenBehindGap bytes kind text rest → ⊥
+IsConstantBehind bytes None = (kind : TokenKind) (text rest : List ℕ) → IsTrue (is_constant kind)
+    → TokenBehindGap bytes kind text rest → ⊥
 
 abbrev pub IsNameBehind : List ℕ → Option (ℕ × ℕ) → Type 0
-IsNameBehind bytes (Some name) = (name.0 ≤ name.1) × (name.1 ≤ length bytes) × HasName bytes (Some (slice_range bytes name.0 name.1))
+IsNameBehind bytes (Some name) = (name.0 ≤ name.1) × (name.1 ≤ length bytes)
+    × HasName bytes (Some (slice_range bytes name.0 name.1))
 IsNameBehind bytes None = HasName bytes None
 
 -- what stands behind `include`, and behind `define`
@@ -233,7 +247,8 @@ IsIncludeBody bytes None = (header : Header) (rest : List ℕ) → IsHeaderLine 
 
 -- a constant alone stands on the line
 abbrev pub IsConstantLine : List ℕ → TokenKind → List ℕ → Type 0
-IsConstantLine bytes kind rest = (text : List ℕ) × (after : List ℕ) × IsTrue (is_constant kind) × TokenBehindGap bytes kind text after × EndsLine after rest
+IsConstantLine bytes kind rest = (text : List ℕ) × (after : List ℕ) × IsTrue (is_constant kind)
+    × TokenBehindGap bytes kind text after × EndsLine after rest
 
 abbrev pub IsConstantLineBody : List ℕ → Option (TokenKind × ℕ) → Type 0
 IsConstantLineBody bytes (Some found) = (found.1 ≤ length bytes) × IsConstantLine bytes found.0 (drop found.1 bytes)
@@ -241,7 +256,8 @@ IsConstantLineBody bytes None = (kind : TokenKind) (rest : List ℕ) → IsConst
 
 -- a name and a constant stand on the line
 abbrev pub IsDefinitionLine : List ℕ → List ℕ → TokenKind → List ℕ → Type 0
-IsDefinitionLine bytes name kind rest = (after : List ℕ) × TokenBehindGap bytes kinds.Identifier name after × IsConstantLine after kind rest
+IsDefinitionLine bytes name kind rest = (after : List ℕ) × TokenBehindGap bytes kinds.Identifier name after
+    × IsConstantLine after kind rest
 
 abbrev pub IsDefineBody : List ℕ → Option (Definition × ℕ) → Type 0
 IsDefineBody bytes (Some found) =
@@ -251,15 +267,19 @@ IsDefineBody bytes None = (name : List ℕ) (kind : TokenKind) (rest : List ℕ)
 
 abbrev pub IsIncludeBehind : List ℕ → ℕ → Option FoundDirective → Type 0
 IsIncludeBehind bytes end (Some found) =
-    (found.length ≤ length bytes) × ((header : Header) × (found.kind ≡ directives.Include header) × IsHeaderLine (drop end bytes) header (drop found.length bytes))
+    (found.length ≤ length bytes) × ((header : Header) × (found.kind ≡ directives.Include header)
+    × IsHeaderLine (drop end bytes) header (drop found.length bytes))
 IsIncludeBehind bytes end None = (header : Header) (rest : List ℕ) → IsHeaderLine (drop end bytes) header rest → ⊥
 
 abbrev pub IsDefineBehind : List ℕ → ℕ → Option FoundDirective → Type 0
 IsDefineBehind bytes end (Some found) =
     (found.length ≤ length bytes)
-    × ((definition : Definition) × (found.kind ≡ directives.Define definition) × (definition.start ≤ definition.end) × (definition.end ≤ length bytes)
-    × IsDefinitionLine (drop end bytes) (slice_range bytes definition.start definition.end) definition.kind (drop found.length bytes))
-IsDefineBehind bytes end None = (name : List ℕ) (kind : TokenKind) (rest : List ℕ) → IsDefinitionLine (drop end bytes) name kind rest → ⊥
+    × ((definition : Definition) × (found.kind ≡ directives.Define definition) × (definition.start ≤ definition.end)
+    × (definition.end ≤ length bytes)
+    × IsDefinitionLine (drop end bytes) (slice_range bytes definition.start definition.end) definition.kind
+    (drop found.length bytes))
+IsDefineBehind bytes end None = (name : List ℕ) (kind : TokenKind) (rest : List ℕ)
+    → IsDefinitionLine (drop end bytes) name kind rest → ⊥
 
 abbrev pub is_identifier : TokenKind → Bool
 is_identifier kinds.Identifier = true
@@ -287,7 +307,8 @@ abbrev pub IsHashFound : List ℕ → Result Found Unread → Type 0
 IsHashFound bytes (Ok found) =
     (0 < found.length) × (found.length ≤ length bytes) × StandWithin found.kind (length bytes - 1)
     × IsLine bytes (kind_in bytes found.kind) (drop found.length bytes)
-IsHashFound bytes (Err unread) = ((directive : Directive) (rest : List ℕ) → DirectiveBegins bytes directive rest → ⊥) × OpensAs unread bytes
+IsHashFound bytes (Err unread) = ((directive : Directive) (rest : List ℕ) → DirectiveBegins bytes directive rest → ⊥)
+    × OpensAs unread bytes
 
 -- how bytes begin at which no element begins: a `//` always begins a comment
 abbrev pub CanOpen : Unread → List ℕ → Type 0

@@ -1,5 +1,6 @@
 -- Which bytes spell a token of each kind (C11 6.4.1 to 6.4.6).
-use Rattle.std.specs.Prelude.{◌≡◌, ◌≢◌, ℕ, Bool, false, ◌==◌, ◌&&◌, ◌||◌, IsTrue, List, [], ◌∷◌, ◌++◌, codes, ◌⊎◌, Option, Some, None, if◌then◌else◌}
+use Rattle.std.specs.Prelude.{◌≡◌, ◌≢◌, ℕ, Bool, false, ◌==◌, ◌&&◌, ◌||◌, IsTrue, List, [], ◌∷◌, ◌++◌, codes, ◌⊎◌}
+use Rattle.std.specs.Prelude.{Option, Some, None, if◌then◌else◌}
 use Rattle.std.specs.List.{list_all}
 use Rattle.c_lexer.specs.declared.keyword.Keyword.{Keyword}
 use Rattle.c_lexer.specs.declared.token.CharacterConstant.{CharacterConstant}
@@ -23,7 +24,8 @@ is_number_word (b ∷ bs) = is_digit b && list_all is_word_byte bs
 
 -- what begins like a number: a digit and letters and digits behind it, where no floating constant begins
 abbrev pub IsNumberLike : List ℕ → Type 0
-IsNumberLike bytes = IsTrue (is_number_word bytes) × ((front rest : List ℕ) → bytes ≡ front ++ rest → IsFloating front → ⊥)
+IsNumberLike bytes = IsTrue (is_number_word bytes)
+    × ((front rest : List ℕ) → bytes ≡ front ++ rest → IsFloating front → ⊥)
 
 -- a string: a quote, the bytes inside, a quote
 abbrev pub IsString : List ℕ → Type 0
@@ -58,4 +60,5 @@ Spells kinds.NullPointer bytes = ⊥
 
 -- what longest match compares: each spelling, what begins like a number, be it one or not, and what begins a comment
 abbrev pub IsLexeme : List ℕ → Type 0
-IsLexeme bytes = ((kind : TokenKind) × Spells kind bytes) ⊎ IsNumberLike bytes ⊎ (bytes ≡ codes "/*") ⊎ (bytes ≡ codes "//")
+IsLexeme bytes = ((kind : TokenKind) × Spells kind bytes) ⊎ IsNumberLike bytes ⊎ (bytes ≡ codes "/*")
+    ⊎ (bytes ≡ codes "//")

@@ -1,5 +1,6 @@
 ghost use Rattle.std.specs.Prelude.{◌≡◌, slice_index};
-ghost use Rattle.c_lexer.specs.Bytes.{is_blank, is_bad_byte, is_digit, is_letter, is_word_byte, is_line_byte, is_string_byte, is_character_byte, is_octal_digit, is_hexadecimal_digit};
+ghost use Rattle.c_lexer.specs.Bytes.{is_blank, is_bad_byte, is_digit, is_letter, is_word_byte, is_line_byte};
+ghost use Rattle.c_lexer.specs.Bytes.{is_string_byte, is_character_byte, is_octal_digit, is_hexadecimal_digit};
 
 pub(crate) fn is_blank(byte: u8) -> bool
     ensures { result ≡ is_blank byte }

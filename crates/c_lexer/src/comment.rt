@@ -8,8 +8,10 @@ use crate::byte::is_line_byte;
 
 /// The place of the first `*/` from the third byte on.
 fn closing(bytes: &[u8]) -> Option<usize>
-    ensures found { IfSome result (λ place. (2 ≤ place) × (place + 2 ≤ length bytes.now) × ClosesAt bytes.now place × ((earlier : ℕ) → 2 ≤ earlier → earlier < place → ClosesAt bytes.now earlier → ⊥)) }
-    ensures none { IfNone result ((place : ℕ) → 2 ≤ place → place + 2 ≤ length bytes.now → ClosesAt bytes.now place → ⊥) }
+    ensures found { IfSome result (λ place. (2 ≤ place) × (place + 2 ≤ length bytes.now) × ClosesAt bytes.now place
+        × ((earlier : ℕ) → 2 ≤ earlier → earlier < place → ClosesAt bytes.now earlier → ⊥)) }
+    ensures none { IfNone result ((place : ℕ) → 2 ≤ place → place + 2 ≤ length bytes.now → ClosesAt bytes.now place
+        → ⊥) }
 {
     if bytes.len() < 4 {
         return None;

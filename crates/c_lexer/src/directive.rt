@@ -1,7 +1,9 @@
 ghost use Rattle.std.specs.Prelude.{◌≡◌, ◌≤◌, length};
 ghost use Rattle.c_lexer.specs.Comments.{is_line_end};
 ghost use Rattle.c_lexer.specs.Directives.{is_constant};
-ghost use Rattle.c_lexer.specs.Scanning.{IsLocated, IsLineEnd, IsDirectiveBody, IsIncludeBody, IsDefineBody, IsIdentifierBehind, IsConstantBehind, IsNameBehind, IsConstantLineBody, IsIncludeBehind, IsDefineBehind, is_word_kind, is_identifier, begins_blank};
+ghost use Rattle.c_lexer.specs.Scanning.{IsLocated, IsLineEnd, IsDirectiveBody, IsIncludeBody, IsDefineBody};
+ghost use Rattle.c_lexer.specs.Scanning.{IsIdentifierBehind, IsConstantBehind, IsNameBehind, IsConstantLineBody};
+ghost use Rattle.c_lexer.specs.Scanning.{IsIncludeBehind, IsDefineBehind, is_word_kind, is_identifier, begins_blank};
 
 use crate::byte::is_blank;
 use crate::gap::whole_gap;

@@ -1,4 +1,5 @@
-ghost use Rattle.std.specs.Prelude.{◌≡◌, ℕ, ◌+◌, ◌*◌, ◌^◌, ◌<◌, ◌≤◌, [], ◌∷◌, length, take, drop, IsTrue, IfSome, IfNone, MatchOption};
+ghost use Rattle.std.specs.Prelude.{◌≡◌, ℕ, ◌+◌, ◌*◌, ◌^◌, ◌<◌, ◌≤◌, [], ◌∷◌, length, take, drop, IsTrue, IfSome};
+ghost use Rattle.std.specs.Prelude.{IfNone, MatchOption};
 ghost use Rattle.std.specs.List.{prefix_len, list_all};
 ghost use Rattle.std.specs.Char.{digit_value};
 ghost use Rattle.std.specs.Str.Parse.{digits_value};
@@ -59,7 +60,8 @@ fn digit(base: IntegerBase, byte: u8) -> u8
 /// The value of digits of the base, if it fits 128 bits.
 fn digits_value(base: IntegerBase, digits: &[u8]) -> Option<u128>
     requires { IsTrue (list_all (is_digit_of base) digits.now) }
-    ensures { MatchOption result (2 ^ 128 ≤ digits_value (radix base) digits.now) (λ value. (value ≡ digits_value (radix base) digits.now) × (value < 2 ^ 128)) }
+    ensures { MatchOption result (2 ^ 128 ≤ digits_value (radix base) digits.now)
+        (λ value. (value ≡ digits_value (radix base) digits.now) × (value < 2 ^ 128)) }
 {
     let mut value: u128 = 0;
     for byte in digits {
@@ -70,7 +72,8 @@ fn digits_value(base: IntegerBase, digits: &[u8]) -> Option<u128>
 
 /// The number with one more digit behind it, if it fits 128 bits.
 fn with_digit(value: u128, radix: u128, digit: u8) -> Option<u128>
-    ensures { MatchOption result (2 ^ 128 ≤ value * radix + digit) (λ next. (next ≡ value * radix + digit) × (next < 2 ^ 128)) }
+    ensures { MatchOption result (2 ^ 128 ≤ value * radix + digit)
+        (λ next. (next ≡ value * radix + digit) × (next < 2 ^ 128)) }
 {
     value.checked_mul(radix)?.checked_add(u128::from(digit))
 }

@@ -1,7 +1,7 @@
 ghost use Rattle.std.specs.Prelude.{◌≡◌, ◌^◌, ◌≤◌, ◌<◌, length, IfOk, IfErr, Ok, Err, ◌⊎◌};
 ghost use Rattle.c_lexer.specs.declared.fault.LexFault.{LexFault};
 ghost use Rattle.c_lexer.specs.TokenLists.{TokenLists};
-ghost use Rattle.c_lexer.specs.Files.{AreTokensOf, IsFaultOf, token_limit, IfFault, IfTokenLimit};
+ghost use Rattle.c_lexer.specs.Files.{AreTokensOf, IsFaultOf, token_limit};
 ghost use Rattle.c_lexer.specs.Reading.{Refuses};
 
 use crate::fault::LexRefusal;
@@ -20,12 +20,16 @@ pub fn lex(alloc: Global, bytes: &Bytes) -> Result<Tokens, LexRefusal>
     requires { length bytes.now ≤ 2 ^ 31 }
     // Each answer is the file's.
     ensures found { IfOk result (λ tokens. AreTokensOf bytes.now tokens × (length tokens.tokens ≤ token_limit)) }
-    ensures faulty { IfFault result (IsFaultOf bytes.now) }
-    ensures many { IfTokenLimit result ((tokens : TokenLists) × AreTokensOf bytes.now tokens × (token_limit < length tokens.tokens)) }
+    ensures faulty { (fault : LexFault) → result ≡ Err (LexRefusal.Fault fault) → IsFaultOf bytes.now fault }
+    ensures many { result ≡ Err LexRefusal.TokenLimit → (tokens : TokenLists) × AreTokensOf bytes.now tokens
+        × (token_limit < length tokens.tokens) }
     // What the file has is the answer, unless memory runs out.
-    ensures only_tokens { (tokens : TokenLists) → AreTokensOf bytes.now tokens → length tokens.tokens ≤ token_limit → (result ≡ Ok tokens) ⊎ (result ≡ Err LexRefusal.NoMemory) }
-    ensures only_fault { (fault : LexFault) → IsFaultOf bytes.now fault → (result ≡ Err (LexRefusal.Fault fault)) ⊎ (result ≡ Err LexRefusal.NoMemory) }
-    ensures only_many { (tokens : TokenLists) → AreTokensOf bytes.now tokens → token_limit < length tokens.tokens → (result ≡ Err LexRefusal.TokenLimit) ⊎ (result ≡ Err LexRefusal.NoMemory) }
+    ensures only_tokens { (tokens : TokenLists) → AreTokensOf bytes.now tokens → length tokens.tokens ≤ token_limit
+        → (result ≡ Ok tokens) ⊎ (result ≡ Err LexRefusal.NoMemory) }
+    ensures only_fault { (fault : LexFault) → IsFaultOf bytes.now fault → (result ≡ Err (LexRefusal.Fault fault))
+        ⊎ (result ≡ Err LexRefusal.NoMemory) }
+    ensures only_many { (tokens : TokenLists) → AreTokensOf bytes.now tokens → token_limit < length tokens.tokens
+        → (result ≡ Err LexRefusal.TokenLimit) ⊎ (result ≡ Err LexRefusal.NoMemory) }
 {
     match read_all(alloc, bytes.as_slice()) {
         Ok(tokens) => {

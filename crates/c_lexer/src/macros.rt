@@ -42,7 +42,8 @@ impl Macros {
         name: &[u8],
         kind: TokenKind,
     ) -> Result<(), NoMemory>
-        ensures { IfOk result (λ _. (other : List ℕ) → kind_of self.new other ≡ (if bytes_eq name.now other then Some kind else kind_of self.old other)) }
+        ensures { IfOk result (λ _. (other : List ℕ)
+            → kind_of self.new other ≡ (if bytes_eq name.now other then Some kind else kind_of self.old other)) }
     {
         let key = Vec::from_slice(alloc, name)?;
         self.kinds.insert(key, kind)?;
@@ -51,7 +52,8 @@ impl Macros {
 
     /// Defines what a header does.
     pub(crate) fn include(&mut self, alloc: Global, header: Header) -> Result<(), NoMemory>
-        ensures { IfOk result (λ _. (name : List ℕ) → kind_of self.new name ≡ first_of (header_macro header name) (kind_of self.old name)) }
+        ensures { IfOk result (λ _. (name : List ℕ)
+            → kind_of self.new name ≡ first_of (header_macro header name) (kind_of self.old name)) }
     {
         match header {
             Header::Stddef => self.define(alloc, b"NULL", TokenKind::NullPointer),
@@ -61,7 +63,8 @@ impl Macros {
     }
 
     fn include_stdbool(&mut self, alloc: Global) -> Result<(), NoMemory>
-        ensures { IfOk result (λ _. (name : List ℕ) → kind_of self.new name ≡ first_of (header_macro headers.Stdbool name) (kind_of self.old name)) }
+        ensures { IfOk result (λ _. (name : List ℕ)
+            → kind_of self.new name ≡ first_of (header_macro headers.Stdbool name) (kind_of self.old name)) }
     {
         let one = IntegerConstant {
             value: 1,

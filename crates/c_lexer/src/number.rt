@@ -1,4 +1,5 @@
-ghost use Rattle.std.specs.Prelude.{◌≡◌, ◌≢◌, ℕ, ◌+◌, ◌-◌, ◌*◌, ◌^◌, ◌<◌, ◌≤◌, ◌↔◌, length, slice_index, IsTrue, IfSome, IfNone, MatchOption};
+ghost use Rattle.std.specs.Prelude.{◌≡◌, ◌≢◌, ℕ, ◌+◌, ◌-◌, ◌*◌, ◌^◌, ◌<◌, ◌≤◌, ◌↔◌, length, slice_index, IsTrue};
+ghost use Rattle.std.specs.Prelude.{IfSome, IfNone, MatchOption};
 ghost use Rattle.std.specs.List.{list_all};
 ghost use Rattle.std.specs.Fmt.{decimal};
 ghost use Rattle.std.specs.Str.Parse.{digits_value};
@@ -36,7 +37,8 @@ fn leads_with_zero(spelling: &[u8]) -> bool
 
 /// The value of digits, if it fits an `int`. Zeros may lead.
 fn digits_value(digits: &[u8]) -> Option<u32>
-    ensures found { IfSome result (λ value. IsTrue (list_all is_digit digits.now) × (value ≡ digits_value 10 digits.now) × (value < 2 ^ 31)) }
+    ensures found { IfSome result (λ value. IsTrue (list_all is_digit digits.now)
+        × (value ≡ digits_value 10 digits.now) × (value < 2 ^ 31)) }
     ensures none { IfNone result (IsTrue (list_all is_digit digits.now) → 2 ^ 31 ≤ digits_value 10 digits.now) }
 {
     let mut value = 0;

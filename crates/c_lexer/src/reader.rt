@@ -1,4 +1,5 @@
-ghost use Rattle.std.specs.Prelude.{◌≡◌, ℕ, ◌+◌, ◌-◌, ◌^◌, ◌≤◌, ◌<◌, List, [], ◌∷◌, ◌++◌, length, take, drop, slice_range, Option, IfOk, IfErr};
+ghost use Rattle.std.specs.Prelude.{◌≡◌, ℕ, ◌+◌, ◌-◌, ◌^◌, ◌≤◌, ◌<◌, List, [], ◌∷◌, ◌++◌, length, take, drop};
+ghost use Rattle.std.specs.Prelude.{slice_range, Option, IfOk, IfErr};
 ghost use Rattle.c_lexer.specs.declared.token.TokenKind.{TokenKind};
 ghost use Rattle.c_lexer.specs.Directives.{directive_macro, HasName};
 ghost use Rattle.c_lexer.specs.Elements.{Element, first_of, replaced, inclusion_by};
@@ -63,7 +64,11 @@ impl Reader {
         requires room { self.old.place.byte + found.length ≤ 2 ^ 31 }
         requires line { self.old.place.line ≤ self.old.place.byte + 1 }
         requires column { self.old.place.column ≤ self.old.place.byte + 1 }
-        ensures { (elements : List Element) → HasRead elements self.old → IfOk result (λ _. HasRead (record { kind = kind_in rest.now found.kind; text = take found.length rest.now } ∷ elements) self.new) }
+        ensures { (elements : List Element) → HasRead elements self.old
+            → IfOk result (λ _. HasRead (record {
+              kind = kind_in rest.now found.kind;
+              text = take found.length rest.now;
+            } ∷ elements) self.new) }
     {
         let text = &rest[..found.length];
         let after = after_text(self.place, text);
@@ -94,8 +99,14 @@ impl Reader {
     }
 
     fn add_token(&mut self, alloc: Global, text: &[u8], kind: TokenKind) -> Result<(), NoMemory>
-        ensures added { IfOk result (λ _. self.new.tokens.items ≡ self.old.tokens.items ++ record { kind = replaced (kind_of self.old.macros text.now) kind; place = self.old.place; text = text.now } ∷ []) }
-        ensures kept { IfOk result (λ _. (self.new.place ≡ self.old.place) × (self.new.macros ≡ self.old.macros) × (self.new.includes ≡ self.old.includes)) }
+        ensures added { IfOk result (λ _. self.new.tokens.items ≡ self.old.tokens.items
+            ++ record {
+              kind = replaced (kind_of self.old.macros text.now) kind;
+              place = self.old.place;
+              text = text.now;
+            } ∷ []) }
+        ensures kept { IfOk result (λ _. (self.new.place ≡ self.old.place) × (self.new.macros ≡ self.old.macros)
+            × (self.new.includes ≡ self.old.includes)) }
     {
         let kind = replaced(self.macros.get(text), kind);
         let text = Bytes::from_slice(alloc, text)?;
@@ -115,8 +126,11 @@ impl Reader {
         directive: DirectiveKind,
     ) -> Result<(), NoMemory>
         requires { AreWithin directive (length rest.now) }
-        ensures macros { IfOk result (λ _. (name : List ℕ) → kind_of self.new.macros name ≡ first_of (directive_macro (directive_in rest.now directive) name) (kind_of self.old.macros name)) }
-        ensures includes { IfOk result (λ _. self.new.includes.items ≡ self.old.includes.items ++ inclusion_by (directive_in rest.now directive) (length self.old.tokens.items)) }
+        ensures macros { IfOk result (λ _. (name : List ℕ)
+            → kind_of self.new.macros name
+            ≡ first_of (directive_macro (directive_in rest.now directive) name) (kind_of self.old.macros name)) }
+        ensures includes { IfOk result (λ _. self.new.includes.items ≡ self.old.includes.items
+            ++ inclusion_by (directive_in rest.now directive) (length self.old.tokens.items)) }
         ensures kept { IfOk result (λ _. (self.new.place ≡ self.old.place) × (self.new.tokens ≡ self.old.tokens)) }
     {
         match directive {
