@@ -1,7 +1,8 @@
 -- The size and the range of each integer type: System V ABI, AMD64 (3.1.2, LP64), two's complement, `char` signed.
 use Rattle.std.specs.Prelude.{ℕ, ◌-◌, ◌*◌, ◌^◌, Bool, true, false, if◌then◌else◌, ℤ, pos, neg_ℤ, ◌≤ℤ◌}
 use Rattle.layouts.specs.declared.int_type.IntType.{IntType}
-use Rattle.layouts.specs.declared.int_type.IntType.TheVariants.{Char, SChar, UChar, Short, UShort, Int, UInt, Long, ULong, LLong, ULLong}
+use Rattle.layouts.specs.declared.int_type.IntType.TheVariants.{Char, SChar, UChar, Short, UShort, Int, UInt, Long}
+use Rattle.layouts.specs.declared.int_type.IntType.TheVariants.{ULong, LLong, ULLong}
 
 -- how many bytes a value of the type has
 abbrev pub int_bytes_of : IntType → ℕ
