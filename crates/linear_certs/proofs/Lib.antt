@@ -1,0 +1,9 @@
+pub mod Integers
+pub mod Ranges
+pub mod SortedFactors
+pub mod Refutation
+pub mod AscendingEntries
+pub mod RunningFactors
+pub mod FactorPrefixes
+pub mod SumSteps
+pub mod PartialSums
