@@ -1,1 +1,5 @@
+pub mod CellLemmas
 pub mod EncodingLemmas
+pub mod MemoryLemmas
+pub mod NumberLemmas
+pub mod RangeLemmas

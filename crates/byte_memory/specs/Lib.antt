@@ -1,1 +1,4 @@
+pub mod Cells
 pub mod Encoding
+pub mod Memory
+pub mod Values

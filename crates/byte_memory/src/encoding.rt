@@ -10,9 +10,12 @@ pub fn encode_int(t: IntType, n: i128, into: &mut [u8])
     requires in_range { IsInRange t n }
     ensures { into.new ≡ int_bytes t n }
 {
-    let bytes = n.to_le_bytes();
-    into.copy_from_slice(&bytes[..into.len()]);
     let _ = t;
+    let mut rest = n;
+    for byte in into.iter_mut() {
+        *byte = rest.rem_euclid(256) as u8;
+        rest = rest.div_euclid(256);
+    }
 }
 
 #[cfg(test)]

@@ -1,11 +1,24 @@
-//! The bytes of memory as the logic sees them, poison and pointer fragments included, and how a value
-//! lies in bytes.
+//! Byte memory: the bytes of blocks and values as the logic sees them, poison and pointer fragments included, loads and
+//! stores with their faults, and how integers, booleans and pointers lie in bytes.
 #![tactic(auto)]
 
+mod block;
 mod byte;
+mod cell;
 mod encoding;
+mod fault;
+mod laws;
+mod memory;
+#[cfg(test)]
+mod tests;
 mod value;
 
 pub use byte::MByte;
 pub use encoding::encode_int;
-pub use value::Value;
+pub use fault::{LoadFault, MemoryUb};
+pub use laws::{
+    closing_touches_no_other_block, numbers_are_read_back, opening_touches_no_block,
+    stored_is_loaded, stores_beside_change_nothing, stores_keep_faults,
+};
+pub use memory::Memory;
+pub use value::{NotBool, Value};
