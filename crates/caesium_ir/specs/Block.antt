@@ -1,4 +1,4 @@
--- Blocks by their labels.
+-- Blocks by their labels (this project's own).
 use Rattle.std.specs.Prelude.{ℕ, List, [], ◌∷◌, Option, Some, None, if◌then◌else◌}
 use Rattle.std.specs.Str.{bytes_eq}
 use Rattle.caesium_ir.specs.declared.block.Block.{Block}

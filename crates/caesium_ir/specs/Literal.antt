@@ -34,7 +34,8 @@ ending_block body = record {
 
 -- the blocks, in order
 abbrev pub literal_blocks : ℕ → LiteralPlaces → List Block
-literal_blocks literal places = entry_block places.body ∷ literal_block literal places.literal places.return_ ∷ ending_block places.body ∷ []
+literal_blocks literal places =
+    entry_block places.body ∷ literal_block literal places.literal places.return_ ∷ ending_block places.body ∷ []
 
 -- the function, whose result is an `int`, and which stands at its name
 abbrev pub literal_function : List ℕ → ℕ → LiteralPlaces → Function
@@ -45,6 +46,9 @@ literal_function name literal places = record {
   place = places.name;
 }
 
--- the program
+-- the program, with no struct and no union
 abbrev pub literal_program : List ℕ → ℕ → LiteralPlaces → Program
-literal_program name literal places = record { functions = literal_function name literal places ∷ [] }
+literal_program name literal places = record {
+  table = [];
+  functions = literal_function name literal places ∷ [];
+}

@@ -1,49 +1,51 @@
 ghost use Rattle.std.specs.Prelude.{◌≡◌, ◌<◌, ◌^◌, IfOk};
 ghost use Rattle.caesium_ir.specs.Literal.{entry_block, literal_block, ending_block, literal_function, literal_program};
-ghost use Rattle.caesium_ir.specs.WellFormed.{IsWellFormed};
+ghost use Rattle.caesium_ir.specs.WellFormed.{IsWellFormed, HasEntries};
 
 use crate::block::{Block, End};
-use crate::blocks::Blocks;
 use crate::function::Function;
-use crate::functions::Functions;
 use crate::literal_places::LiteralPlaces;
 use crate::operation::{Op, PlacedOp};
-use crate::operations::Operations;
 use crate::program::Program;
-use layouts::{IntType, Layout};
-use rc_text::{NoMemory, Place, Text};
+use layouts::{IntType, Layout, Table};
+use rc_text::{Bytes, NoMemory, Place};
+use sqlite_items::Items;
 use std::alloc::Global;
 
 /// The program of a file whose one function returns one literal.
 pub fn one_literal(
     alloc: Global,
-    name: &str,
+    name: &[u8],
     literal: u32,
     places: LiteralPlaces,
 ) -> Result<Program, NoMemory>
     requires { literal < 2 ^ 31 }
     ensures exact { IfOk result (λ program. program ≡ literal_program name.now literal places) }
     ensures well_formed { IfOk result (λ program. IsWellFormed program) }
+    ensures entries { IfOk result (λ program. HasEntries program) }
 {
-    let mut functions = Functions::new(alloc);
+    let mut functions = Items::new(alloc);
     functions.push(new_function(alloc, name, literal, places)?)?;
-    Ok(Program { functions })
+    Ok(Program {
+        table: Table::new(alloc),
+        functions,
+    })
 }
 
 fn new_function(
     alloc: Global,
-    name: &str,
+    name: &[u8],
     literal: u32,
     places: LiteralPlaces,
 ) -> Result<Function, NoMemory>
     ensures { IfOk result (λ function. function ≡ literal_function name.now literal places) }
 {
-    let mut blocks = Blocks::new(alloc);
+    let mut blocks = Items::new(alloc);
     blocks.push(new_entry(alloc, places.body)?)?;
     blocks.push(new_body(alloc, literal, places.literal, places.return_)?)?;
     blocks.push(new_ending(alloc, places.body)?)?;
     Ok(Function {
-        name: Text::from_str(alloc, name)?,
+        name: Bytes::from_slice(alloc, name)?,
         result: Some(Layout::Int(IntType::Int)),
         blocks,
         place: places.name,
@@ -54,9 +56,9 @@ fn new_entry(alloc: Global, body: Place) -> Result<Block, NoMemory>
     ensures { IfOk result (λ block. block ≡ entry_block body) }
 {
     Ok(Block {
-        label: Text::from_str(alloc, ".")?,
-        operations: Operations::new(alloc),
-        end: End::Goto(Text::from_str(alloc, ".0")?),
+        label: Bytes::from_slice(alloc, b".")?,
+        operations: Items::new(alloc),
+        end: End::Goto(Bytes::from_slice(alloc, b".0")?),
         end_place: body,
     })
 }
@@ -69,7 +71,7 @@ fn new_body(
 ) -> Result<Block, NoMemory>
     ensures { IfOk result (λ block. block ≡ literal_block literal literal_place return_place) }
 {
-    let mut operations = Operations::new(alloc);
+    let mut operations = Items::new(alloc);
     operations.push(PlacedOp {
         op: Op::Const {
             of: IntType::Int,
@@ -78,7 +80,7 @@ fn new_body(
         place: literal_place,
     })?;
     Ok(Block {
-        label: Text::from_str(alloc, ".0")?,
+        label: Bytes::from_slice(alloc, b".0")?,
         operations,
         end: End::Return,
         end_place: return_place,
@@ -88,13 +90,13 @@ fn new_body(
 fn new_ending(alloc: Global, body: Place) -> Result<Block, NoMemory>
     ensures { IfOk result (λ block. block ≡ ending_block body) }
 {
-    let mut operations = Operations::new(alloc);
+    let mut operations = Items::new(alloc);
     operations.push(PlacedOp {
         op: Op::Poison { size: 4 },
         place: body,
     })?;
     Ok(Block {
-        label: Text::from_str(alloc, ".end")?,
+        label: Bytes::from_slice(alloc, b".end")?,
         operations,
         end: End::Return,
         end_place: body,
@@ -131,16 +133,14 @@ mod tests {
         column: 10,
     };
 
-    fn expect_block(
-        rt: &impl Abort,
-        block: &Block,
-        label: &str,
-        operations: &[PlacedOp],
-        place: Place,
-    ) {
-        assert!(rt; block.label.as_str() == label);
-        assert_eq!(rt; block.operations.as_slice(), operations);
-        assert_eq!(rt; block.end_place, place);
+    fn expect_block(rt: &impl Abort, block: &Block, label: &[u8], ops: &[(Op, Place)], end: Place) {
+        assert!(rt; block.label.as_slice() == label);
+        assert_eq!(rt; block.operations.len(), ops.len());
+        for (placed, (op, place)) in block.operations.as_slice().iter().zip(ops) {
+            assert_eq!(rt; &placed.op, op);
+            assert_eq!(rt; placed.place, *place);
+        }
+        assert_eq!(rt; block.end_place, end);
     }
 
     #[test]
@@ -151,38 +151,32 @@ mod tests {
             return_: RETURN,
             literal: LITERAL,
         };
-        let program = one_literal(rt.alloc(), "seven", 7, places)?;
+        let program = one_literal(rt.alloc(), b"seven", 7, places)?;
         assert_eq!(rt; program.functions.len(), 1);
-        assert!(rt; program.function("eight").is_none());
-        let function = program.function("seven").ok_or("no function")?;
+        assert!(rt; program.function(b"eight").is_none());
+        let function = program.function(b"seven").ok_or("no function")?;
         assert_eq!(rt; function.result, Some(Layout::Int(IntType::Int)));
         assert_eq!(rt; function.place, NAME);
 
         let blocks = function.blocks.as_slice();
         assert_eq!(rt; blocks.len(), 3);
-        expect_block(&rt, &blocks[0], ".", &[], BODY);
-        let seven = PlacedOp {
-            op: Op::Const {
-                of: IntType::Int,
-                value: 7,
-            },
-            place: LITERAL,
+        expect_block(&rt, &blocks[0], b".", &[], BODY);
+        let seven = Op::Const {
+            of: IntType::Int,
+            value: 7,
         };
-        expect_block(&rt, &blocks[1], ".0", &[seven], RETURN);
-        let poison = PlacedOp {
-            op: Op::Poison { size: 4 },
-            place: BODY,
-        };
-        expect_block(&rt, &blocks[2], ".end", &[poison], BODY);
+        expect_block(&rt, &blocks[1], b".0", &[(seven, LITERAL)], RETURN);
+        let poison = Op::Poison { size: 4 };
+        expect_block(&rt, &blocks[2], b".end", &[(poison, BODY)], BODY);
 
         match &blocks[0].end {
-            End::Goto(label) => assert!(rt; label.as_str() == ".0"),
+            End::Goto(label) => assert!(rt; label.as_slice() == b".0".as_slice()),
             End::Return => assert!(rt; false),
         }
         assert!(rt; matches!(&blocks[1].end, End::Return));
         assert!(rt; matches!(&blocks[2].end, End::Return));
-        assert!(rt; function.block(".1").is_none());
-        let ending = function.block(".end").ok_or("no block")?;
+        assert!(rt; function.block(b".1").is_none());
+        let ending = function.block(b".end").ok_or("no block")?;
         assert_eq!(rt; ending.operations.len(), 1);
         Ok(())
     }

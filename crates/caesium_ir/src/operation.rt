@@ -2,7 +2,7 @@ use layouts::IntType;
 use rc_text::Place;
 
 /// What a block does before its end, one after another.
-#[derive(Clone, Copy, Debug, PartialEq, Eq, Hash)]
+#[derive(Debug, Drop, PartialEq, Eq)]
 pub enum Op {
     /// Puts a number of the type on the row.
     Const { of: IntType, value: i128 },
@@ -11,7 +11,7 @@ pub enum Op {
 }
 
 /// An operation, and the place in the source that it comes from.
-#[derive(Clone, Copy, Debug, PartialEq, Eq, Hash)]
+#[derive(Debug, Drop)]
 pub struct PlacedOp {
     pub op: Op,
     pub place: Place,
