@@ -1,4 +1,6 @@
 pub mod Accesses
-pub mod Determined
 pub mod LiteralThreads
-pub mod ThreadLists
+pub mod NextFunctions
+pub mod Outcomes
+pub mod Stacks
+pub mod Threads

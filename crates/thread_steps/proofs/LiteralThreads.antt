@@ -1,26 +1,36 @@
 -- The threads of a one-literal program: each is in one of four states, whatever order the steps come in.
-use Rattle.std.proofs.Common.{◌≡◌, ℕ, true, ◌⊎◌, inl, inr, List, [], ◌∷◌, length, refl, ap, sym, subst, pos}
-use Rattle.std.specs.Prelude.{codes, Some, None, if◌then◌else◌, option_and_then, slice_get, slice_set}
+use Rattle.std.proofs.Common.{◌≡◌, ℕ, zero, suc, Bool, true, inl, inr, List, [], ◌∷◌, ◌++◌, length, refl, ap}
+use Rattle.std.proofs.Common.{◌∙◌, pos, sym, subst}
+use Rattle.std.specs.Prelude.{codes, ◌==◌, Option, Some, None, Result, Ok, Err, if◌then◌else◌, option_and_then}
+use Rattle.std.specs.Prelude.{slice_get, slice_set}
+use Rattle.std.specs.List.{AllByRecursion}
 use Rattle.std.specs.Str.{bytes_eq}
+use Rattle.std.proofs.lemmas.List.{append-nil}
 use Rattle.std.proofs.lemmas.Slice.Eq.{bytes_eq-Decides}
 use Rattle.caesium_ir.specs.declared.literal_places.LiteralPlaces.{LiteralPlaces}
 use Rattle.layouts.specs.declared.int_type.IntType.TheVariants.{Int}
 use Rattle.byte_memory.specs.declared.byte.MByte.{MByte}
+use Rattle.byte_memory.specs.declared.memory.Memory.{Memory}
 use Rattle.byte_memory.specs.Encoding.{int_bytes, enc}
 use Rattle.caesium_ir.specs.declared.function.Function.{Function}
 use Rattle.caesium_ir.specs.declared.program.Program.{Program}
 use Rattle.caesium_ir.specs.Literal.{literal_function, literal_program}
+use Rattle.thread_steps.specs.declared.answer.Ub.{Ub}
+use Rattle.thread_steps.specs.declared.answer.Ub.TheVariants.{PoisonUsed}
 use Rattle.thread_steps.specs.declared.frame.Frame.{Frame}
 use Rattle.thread_steps.specs.declared.thread.Thread.{Thread}
-use Rattle.thread_steps.specs.declared.config.Config.{Config}
-use Rattle.thread_steps.specs.Next.{next_in_function, next_of}
-use Rattle.thread_steps.specs.Step.{Step, StepNext, IsStuck}
-use Rattle.thread_steps.specs.Thread.{starting_thread, IsFinished}
-use Rattle.thread_steps.specs.Config.{StepsTo, starting}
+use Rattle.thread_steps.specs.declared.thread.Thread.TheVariants.{Running, Finished}
+use Rattle.thread_steps.specs.Next.{next_in_function}
+use Rattle.thread_steps.specs.Step.{After, becomes, step_next, step_of, Step}
+use Rattle.thread_steps.specs.Thread.{starting_thread, returned}
+use Rattle.thread_steps.specs.Configuration.{Configuration, StepsTo, starting}
+use Rattle.thread_steps.specs.Undefined.{IsStuck, IsStuckAt, IsUndefinedBy, Reason, Stuck, Race}
 use Rattle.thread_steps.specs.Run.{Run}
+use Rattle.thread_steps.specs.Start.{Start, functions_of}
+use Rattle.thread_steps.specs.LiteralStart.{IsLiteralStart}
 use Rattle.thread_steps.specs.Soundness.{IsSound, AreSound}
 use Rattle.thread_steps.proofs.Accesses.{no_race}
-use Rattle.thread_steps.proofs.ThreadLists.{get_of_set, get_of_replicate}
+use Rattle.thread_steps.proofs.Threads.{get_of_set}
 
 -- at the block `.`, at the constant, at the return, and finished
 pub data State : Type 0 where
@@ -33,27 +43,21 @@ pub data State : Type 0 where
 abbrev pub frame_at : List ℕ → List ℕ → ℕ → List (List MByte) → Frame
 frame_at name label operation row = record { function = name; label = label; operation = operation; row = row }
 
--- a thread without a frame that has returned nothing
-abbrev pub idle : Thread
-idle = record { frames = []; returned = None }
-
-abbrev pub alone : Frame → Thread
-alone frame = record { frames = frame ∷ []; returned = None }
-
 -- the thread in each state
 abbrev pub thread_at : List ℕ → ℕ → State → Thread
-thread_at name literal Begun = alone (frame_at name (codes ".") 0 [])
-thread_at name literal Inside = alone (frame_at name (codes ".0") 0 [])
-thread_at name literal Loaded = alone (frame_at name (codes ".0") 1 (enc Int (pos literal) ∷ []))
-thread_at name literal Done = record { frames = []; returned = Some (enc Int (pos literal)) }
+thread_at name literal Begun = Running (frame_at name (codes ".") 0 []) []
+thread_at name literal Inside = Running (frame_at name (codes ".0") 0 []) []
+thread_at name literal Loaded = Running (frame_at name (codes ".0") 1 (enc Int (pos literal) ∷ [])) []
+thread_at name literal Done = Finished (Some (enc Int (pos literal)))
 
 -- the thread is in one of the states
 abbrev pub IsKnown : List ℕ → ℕ → Thread → Type 0
 IsKnown name literal thread = (state : State) × (thread_at name literal state ≡ thread)
 
 -- each thread of the configuration is
-abbrev pub AreKnown : List ℕ → ℕ → Config → Type 0
-AreKnown name literal config = (i : ℕ) (thread : Thread) → slice_get config.threads i ≡ Some thread → IsKnown name literal thread
+abbrev pub AreKnown : List ℕ → ℕ → Configuration → Type 0
+AreKnown name literal config =
+    (i : ℕ) (thread : Thread) → slice_get config.threads i ≡ Some thread → IsKnown name literal thread
 
 length-enc : (literal : ℕ) → length (enc Int (pos literal)) ≡ 4
 unfolding enc int_bytes
@@ -62,6 +66,21 @@ length-enc literal = refl
 bytes_eq-same : (name : List ℕ) → bytes_eq name name ≡ true
 bytes_eq-same name = (bytes_eq-Decides name name).1 refl
 
+-- what a step leaves, where it is known
+left_by : {A E : Type 0} (r : Result A E) (known after : A) → r ≡ Ok known → r ≡ Ok after → known ≡ after
+left_by r known after is found = cc
+
+never_both : {A E : Type 0} (r : Result A E) (known : A) (e : E) → r ≡ Ok known → r ≡ Err e → ⊥
+never_both r known e is found = cc
+
+-- the starts that answer the literal, one by one
+start_at : (name : List ℕ) (literal : ℕ) (starts : List Start) (i : ℕ) (start : Start) →
+    AllByRecursion (IsLiteralStart name literal) starts → slice_get starts i ≡ Some start →
+    IsLiteralStart name literal start
+start_at name literal [] i start all at = cc
+start_at name literal (s ∷ starts) zero start all at = subst (IsLiteralStart name literal) (cc) all.0
+start_at name literal (s ∷ starts) (suc i) start all at = start_at name literal starts i start all.1 at
+
 module _ (name : List ℕ) (literal : ℕ) (places : LiteralPlaces) where
   abbrev program : Program
   program = literal_program name literal places
@@ -69,67 +88,115 @@ module _ (name : List ℕ) (literal : ℕ) (places : LiteralPlaces) where
   abbrev function : Function
   function = literal_function name literal places
 
+  abbrev value : List MByte
+  value = enc Int (pos literal)
+
   -- a frame of the function finds it
-  next_is : (label : List ℕ) (operation : ℕ) (row : List (List MByte)) → next_of program (frame_at name label operation row) ≡ next_in_function function (frame_at name label operation row)
-  next_is label operation row = ap (λ same. option_and_then (λ found. next_in_function found (frame_at name label operation row)) (if same then Some function else None)) (bytes_eq-same name)
+  step_is : (label : List ℕ) (operation : ℕ) (row : List (List MByte)) (memory : Memory) →
+      let frame = frame_at name label operation row in
+      step_of program frame [] memory ≡ step_next [] (next_in_function frame function) frame [] memory
+  step_is label operation row memory =
+      let frame = frame_at name label operation row in
+      let next_if = λ (same : Bool). option_and_then (next_in_function frame) (if same then Some function else None) in
+      ap (λ same. step_next [] (next_if same) frame [] memory) (bytes_eq-same name)
 
-  to_next : (label : List ℕ) (operation : ℕ) (row : List (List MByte)) (new : Thread) → Step program (alone (frame_at name label operation row)) new → StepNext (next_in_function function (frame_at name label operation row)) (frame_at name label operation row) idle new
-  to_next label operation row new step = subst (λ next. StepNext next (frame_at name label operation row) idle new) (next_is label operation row) step
+  begun : (memory : Memory) →
+      step_of program (frame_at name (codes ".") 0 []) [] memory ≡ Ok (becomes (thread_at name literal Inside) memory)
+  begun memory = step_is (codes ".") 0 [] memory
 
-  from_next : (label : List ℕ) (operation : ℕ) (row : List (List MByte)) (new : Thread) → StepNext (next_in_function function (frame_at name label operation row)) (frame_at name label operation row) idle new → Step program (alone (frame_at name label operation row)) new
-  from_next label operation row new step = subst (λ next. StepNext next (frame_at name label operation row) idle new) (sym (next_is label operation row)) step
+  inside : (memory : Memory) →
+      step_of program (frame_at name (codes ".0") 0 []) [] memory ≡ Ok (becomes (thread_at name literal Loaded) memory)
+  inside memory = step_is (codes ".0") 0 [] memory
 
-  -- a step leads from a state to a state
-  moves : (state : State) (new : Thread) → Step program (thread_at name literal state) new → IsKnown name literal new
-  moves Begun new step = (Inside, sym (to_next (codes ".") 0 [] new step))
-  moves Inside new step = (Loaded, sym (to_next (codes ".0") 0 [] new step))
-  moves Loaded new step = (Done, sym (to_next (codes ".0") 1 (enc Int (pos literal) ∷ []) new step).1)
-  moves Done new step = absurd step
+  -- the return of the literal, which is as long as an `int`
+  loaded : (memory : Memory) →
+      step_of program (frame_at name (codes ".0") 1 (value ∷ [])) [] memory
+      ≡ Ok (becomes (thread_at name literal Done) memory)
+  loaded memory =
+      let left_if = λ (n : ℕ). if n == 4 then Ok (becomes (returned (Some value) []) memory) else Err PoisonUsed in
+      step_is (codes ".0") 1 (value ∷ []) memory ∙ ap left_if (length-enc literal)
 
-  -- each state is finished or has a step
-  goes_on : (state : State) → IsFinished (thread_at name literal state) ⊎ ((new : Thread) × Step program (thread_at name literal state) new)
-  goes_on Begun = inr (thread_at name literal Inside, from_next (codes ".") 0 [] (thread_at name literal Inside) refl)
-  goes_on Inside = inr (thread_at name literal Loaded, from_next (codes ".0") 0 [] (thread_at name literal Loaded) refl)
-  goes_on Loaded = inr (thread_at name literal Done, from_next (codes ".0") 1 (enc Int (pos literal) ∷ []) (thread_at name literal Done) (length-enc literal, refl))
-  goes_on Done = inl refl
+  -- each step leads to a known thread, and starts none
+  moves : (state : State) (memory : Memory) (after : After) → Step program (thread_at name literal state) memory after →
+      IsKnown name literal after.thread × (after.started ≡ [])
+  moves Begun memory after step =
+      let is = left_by _ _ after (begun memory) step in
+      ((Inside, ap (λ (a : After). a.thread) is), sym (ap (λ (a : After). a.started) is))
+  moves Inside memory after step =
+      let is = left_by _ _ after (inside memory) step in
+      ((Loaded, ap (λ (a : After). a.thread) is), sym (ap (λ (a : After). a.started) is))
+  moves Loaded memory after step =
+      let is = left_by _ _ after (loaded memory) step in
+      ((Done, ap (λ (a : After). a.thread) is), sym (ap (λ (a : After). a.started) is))
+  moves Done memory after step = absurd step
 
-  not_stuck : (thread : Thread) → IsKnown name literal thread → IsStuck program thread → ⊥
-  not_stuck thread (state, is) stuck =
-      let here : IsStuck program (thread_at name literal state) = subst (λ t. IsStuck program t) (sym is) stuck in
-      elim (goes_on state) [ inl finished ↦ here.unfinished finished | inr (new, step) ↦ here.no_step new step ]
+  -- no state is stuck
+  goes_on : (state : State) (memory : Memory) (ub : Ub) → IsStuck program (thread_at name literal state) memory ub → ⊥
+  goes_on Begun memory ub stuck = never_both _ _ ub (begun memory) stuck
+  goes_on Inside memory ub stuck = never_both _ _ ub (inside memory) stuck
+  goes_on Loaded memory ub stuck = never_both _ _ ub (loaded memory) stuck
+  goes_on Done memory ub stuck = stuck
 
   -- the finished state has returned the literal
-  answers : (state : State) → IsFinished (thread_at name literal state) → (thread_at name literal state).returned ≡ Some (enc Int (pos literal))
-  answers Begun finished = cc
-  answers Inside finished = cc
-  answers Loaded finished = cc
-  answers Done finished = refl
-
-  returned_at : (thread : Thread) → IsKnown name literal thread → IsFinished thread → thread.returned ≡ Some (enc Int (pos literal))
-  returned_at thread (state, is) finished =
-      subst (λ (t : Thread). t.returned ≡ Some (enc Int (pos literal))) is (answers state (subst (λ t. IsFinished t) (sym is) finished))
+  answers : (state : State) (found : Option (List MByte)) →
+      thread_at name literal state ≡ Finished found → found ≡ Some value
+  answers Begun found finished = cc
+  answers Inside found finished = cc
+  answers Loaded found finished = cc
+  answers Done found finished = cc
 
   -- the states are kept from the first configuration on
-  known_first : (count : ℕ) → AreKnown name literal (starting count name)
-  known_first count i thread at = (Begun, get_of_replicate count i (starting_thread name) thread at)
+  known_first : (starts : List Start) → AllByRecursion (IsLiteralStart name literal) starts →
+      AreKnown name literal (starting (functions_of starts))
+  known_first [] all i thread at = cc
+  known_first (start ∷ starts) all zero thread at = (Begun, ap starting_thread (sym all.0.calls) ∙ cc)
+  known_first (start ∷ starts) all (suc i) thread at = known_first starts all.1 i thread at
 
-  known_after : (old new : Config) → AreKnown name literal old → StepsTo program old new → AreKnown name literal new
+  known_after : (old new : Configuration) → AreKnown name literal old → StepsTo program old new →
+      AreKnown name literal new
   known_after old new known (i, step) j thread at =
-      let state = known i step.before step.is in
-      let after : IsKnown name literal step.after = moves state.0 step.after (subst (λ t. Step program t step.after) (sym state.1) step.step) in
-      let read : slice_get (slice_set old.threads i step.after) j ≡ Some thread = subst (λ (config : Config). slice_get config.threads j ≡ Some thread) step.others at in
-      elim (get_of_set old.threads i j step.after thread read) [ inl same ↦ subst (λ t. IsKnown name literal t) same after | inr before ↦ known j thread before ]
+      let (state, state_is) = known i step.thread step.is in
+      let of_state = subst (λ t. Step program t old.memory step.after) (sym state_is) step.step in
+      let moved = moves state old.memory step.after of_state in
+      let set = slice_set old.threads i step.after.thread in
+      let threads : new.threads ≡ set = step.threads ∙ ap (λ started. set ++ started) moved.1 ∙ append-nil set in
+      let read = subst (λ (ts : List Thread). slice_get ts j ≡ Some thread) threads at in
+      elim (get_of_set old.threads i j step.after.thread thread read) [
+        | inl same ↦ subst (λ t. IsKnown name literal t) same moved.0
+        | inr before ↦ known j thread before
+      ]
 
   -- and make it sound
-  sound : (config : Config) → AreKnown name literal config → IsSound program (enc Int (pos literal)) config
-  sound config known = record {
-    defined = λ undefined. elim undefined [ inl (i, (thread, at, stuck)) ↦ not_stuck thread (known i thread at) stuck | inr race ↦ no_race program config race ];
-    returned = λ i thread at finished. returned_at thread (known i thread at) finished;
+  not_stuck : (config : Configuration) → AreKnown name literal config → (i : ℕ) (ub : Ub) →
+      IsStuckAt program i config ub → ⊥
+  not_stuck config known i ub stuck =
+      let (state, state_is) = known i stuck.thread stuck.is in
+      let of_state = subst (λ t. IsStuck program t config.memory ub) (sym state_is) stuck.stuck in
+      goes_on state config.memory ub of_state
+
+  defined : (config : Configuration) → AreKnown name literal config → (reason : Reason) →
+      IsUndefinedBy program config reason → ⊥
+  defined config known (Stuck i ub) stuck = not_stuck config known i ub stuck
+  defined config known (Race i j block offset) race = no_race program config i j block offset race
+
+  sound : (starts : List Start) (config : Configuration) → AllByRecursion (IsLiteralStart name literal) starts →
+      AreKnown name literal config → IsSound program starts config
+  sound starts config all known = record {
+    defined = λ (reason, undefined). defined config known reason undefined;
+    returned = λ i start found start_is finished.
+        let (state, state_is) = known i (Finished found) finished in
+        answers state found state_is ∙ sym (start_at name literal starts i start all start_is).answers;
   }
 
-  all_sound : (first : Config) (configs : List Config) → AreKnown name literal first → Run program first configs → AreSound program (enc Int (pos literal)) first configs
-  all_sound first [] known run = (sound first known, tt)
-  all_sound first (second ∷ configs) known (step, run) = (sound first known, all_sound second configs (known_after first second known step) run)
+  all_sound : (starts : List Start) (first : Configuration) (configs : List Configuration) →
+      AllByRecursion (IsLiteralStart name literal) starts → AreKnown name literal first → Run program first configs →
+      AreSound program starts first configs
+  all_sound starts first [] all known run = (sound starts first all known, tt)
+  all_sound starts first (second ∷ configs) all known (step, run) =
+      (sound starts first all known, all_sound starts second configs all (known_after first second known step) run)
 
-  pub runs_are_sound : (count : ℕ) (configs : List Config) → Run program (starting count name) configs → AreSound program (enc Int (pos literal)) (starting count name) configs
-  runs_are_sound count configs run = all_sound (starting count name) configs (known_first count) run
+  pub runs_are_sound : (starts : List Start) (configs : List Configuration) →
+      AllByRecursion (IsLiteralStart name literal) starts → Run program (starting (functions_of starts)) configs →
+      AreSound program starts (starting (functions_of starts)) configs
+  runs_are_sound starts configs all run =
+      all_sound starts (starting (functions_of starts)) configs all (known_first starts all) run

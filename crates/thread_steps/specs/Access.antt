@@ -1,64 +1,59 @@
--- Which bytes of memory a step touches, and when two steps race (C11 5.1.2.4, paragraph 25).
-use Rattle.std.specs.Prelude.{ℕ, ◌≡◌, ◌≢◌, Bool, not, ◌&&◌, ◌||◌, IsTrue, List, [], ◌∷◌, Option, Some, None, slice_get, Contains}
-use Rattle.rc_terms.specs.declared.location.Loc.{Loc}
+-- Which bytes of memory a step touches (this project's own).
+use Rattle.std.specs.Prelude.{ℕ, ◌≡◌, ◌+◌, ◌≤◌, ◌<◌, Bool, List, [], Option, Some, None, Result, Ok, Err}
+use Rattle.layouts.specs.declared.table.Table.{Table}
+use Rattle.byte_memory.specs.declared.byte.MByte.{MByte}
+use Rattle.byte_memory.specs.declared.memory.Memory.{Memory}
 use Rattle.caesium_ir.specs.declared.operation.Op.{Op}
 use Rattle.caesium_ir.specs.declared.operation.Op.TheVariants.{Const, Poison}
 use Rattle.caesium_ir.specs.declared.block.End.{End}
 use Rattle.caesium_ir.specs.declared.block.End.TheVariants.{Goto, Return}
 use Rattle.caesium_ir.specs.declared.program.Program.{Program}
+use Rattle.thread_steps.specs.declared.answer.Ub.{Ub}
 use Rattle.thread_steps.specs.declared.frame.Frame.{Frame}
 use Rattle.thread_steps.specs.declared.thread.Thread.{Thread}
-use Rattle.thread_steps.specs.declared.config.Config.{Config}
+use Rattle.thread_steps.specs.declared.thread.Thread.TheVariants.{Running, Finished}
+use Rattle.thread_steps.specs.Frame.{operands_on}
+use Rattle.thread_steps.specs.Operations.{operand_count}
 use Rattle.thread_steps.specs.Next.{NextOf, Runs, Ends, next_of}
+use Rattle.thread_steps.specs.Step.{After, step_of}
 
--- one byte that a step touches
+-- a range of bytes of a block: from the byte at `start` on, this many, read or written, atomically or not
 pub record Access : Type 0 where
-  pub location : Loc
+  pub block : ℕ
+  pub start : ℕ
+  pub length : ℕ
   pub writes : Bool
   pub atomic : Bool
 
--- what an operation touches: a constant nothing, and poison nothing
-abbrev pub op_accesses : Op → Frame → List Access
-op_accesses (Const of value) frame = []
-op_accesses (Poison size) frame = []
+-- the range has the byte at this offset of this block
+pub record Covers (access : Access) (block offset : ℕ) : Type 0 where
+  pub same_block : access.block ≡ block
+  pub from : access.start ≤ offset
+  pub before_end : offset < access.start + access.length
+
+-- what an operation on these operands touches: a constant nothing, and poison nothing
+abbrev pub op_accesses : Table → Op → List (List MByte) → List Access
+op_accesses table (Const of value) operands = []
+op_accesses table (Poison size) operands = []
 
 -- what the end of a block touches: a `goto` nothing, and a `return` nothing
-abbrev pub end_accesses : End → Frame → List Access
-end_accesses (Goto label) frame = []
-end_accesses Return frame = []
+abbrev pub end_accesses : End → List Access
+end_accesses (Goto label) = []
+end_accesses Return = []
 
--- what the next step of a frame touches
-abbrev pub next_accesses : Option NextOf → Frame → List Access
-next_accesses None frame = []
-next_accesses (Some (Runs op)) frame = op_accesses op frame
-next_accesses (Some (Ends result end)) frame = end_accesses end frame
+-- what the next operation or end of a frame touches
+abbrev pub next_accesses : Table → Option NextOf → Frame → List Access
+next_accesses table None frame = []
+next_accesses table (Some (Runs function op)) frame = op_accesses table op (operands_on (operand_count op) frame)
+next_accesses table (Some (Ends function end)) frame = end_accesses end
 
--- what the next step of the top frame touches; without a frame nothing
-abbrev pub top_accesses : Program → List Frame → List Access
-top_accesses program [] = []
-top_accesses program (frame ∷ callers) = next_accesses (next_of program frame) frame
+-- these where the step is defined; a step that is undefined touches nothing
+abbrev pub if_defined : Result After Ub → List Access → List Access
+if_defined (Ok after) accesses = accesses
+if_defined (Err ub) accesses = []
 
--- what the next step of a thread touches
-abbrev pub accesses_of : Program → Thread → List Access
-accesses_of program thread = top_accesses program thread.frames
-
--- the same byte, one of the two writes it, and not both are atomic
-pub record Conflicts (one other : Access) : Type 0 where
-  pub same : one.location ≡ other.location
-  pub written : IsTrue (one.writes || other.writes)
-  pub plain : IsTrue (not (one.atomic && other.atomic))
-
--- the next steps of two different threads conflict
-pub record HasRace (program : Program) (config : Config) : Type 0 where
-  pub i : ℕ
-  pub j : ℕ
-  pub different : i ≢ j
-  pub one : Thread
-  pub other : Thread
-  pub one_is : slice_get config.threads i ≡ Some one
-  pub other_is : slice_get config.threads j ≡ Some other
-  pub access : Access
-  pub against : Access
-  pub touches : Contains (accesses_of program one) access
-  pub touched : Contains (accesses_of program other) against
-  pub conflict : Conflicts access against
+-- what the next step of a thread touches: nothing where it has none
+abbrev pub accesses_of : Program → Memory → Thread → List Access
+accesses_of program memory (Running top callers) =
+    if_defined (step_of program top callers memory) (next_accesses program.table (next_of program top) top)
+accesses_of program memory (Finished value) = []

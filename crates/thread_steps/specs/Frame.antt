@@ -1,5 +1,5 @@
--- How a frame changes.
-use Rattle.std.specs.Prelude.{ℕ, ◌+◌, List, [], ◌∷◌, codes}
+-- How a frame changes (this project's own).
+use Rattle.std.specs.Prelude.{ℕ, ◌+◌, List, [], ◌∷◌, codes, reverse, take, drop, Option, Some, None}
 use Rattle.byte_memory.specs.declared.byte.MByte.{MByte}
 use Rattle.thread_steps.specs.declared.frame.Frame.{Frame}
 
@@ -11,6 +11,16 @@ starting_frame function = record { function = function; label = codes "."; opera
 abbrev pub entered : List ℕ → Frame → Frame
 entered label frame = record frame { label = label; operation = 0 }
 
--- with the value on its row, at the next operation
-abbrev pub pushed : List MByte → Frame → Frame
-pushed value frame = record frame { operation = frame.operation + 1; row = value ∷ frame.row }
+-- with the value on its row, where there is one
+abbrev pub given : Option (List MByte) → Frame → Frame
+given None frame = frame
+given (Some value) frame = record frame { row = value ∷ frame.row }
+
+-- the top of the row in the order in which it was pushed: this many operands, or fewer where the row is shorter
+abbrev pub operands_on : ℕ → Frame → List (List MByte)
+operands_on count frame = reverse (take count frame.row)
+
+-- after an operation that took this many operands: at the next one, with what it gave on the row
+abbrev pub operated : ℕ → Option (List MByte) → Frame → Frame
+operated count value frame =
+    given value (record frame { operation = frame.operation + 1; row = drop count frame.row })

@@ -1,10 +1,15 @@
 pub mod Access
-pub mod Config
+pub mod Answer
+pub mod Configuration
 pub mod FindNext
 pub mod Frame
+pub mod LiteralStart
 pub mod Next
+pub mod Operations
+pub mod Race
 pub mod Run
 pub mod Soundness
+pub mod Start
 pub mod Step
-pub mod StepEnds
 pub mod Thread
+pub mod Undefined

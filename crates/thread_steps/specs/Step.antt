@@ -1,53 +1,71 @@
--- One step of a thread (RefinedC, PLDI 2021), by cases on what its top frame does next. `below` is the thread without that frame.
-use Rattle.std.specs.Prelude.{◌≡◌, List, [], ◌∷◌, length, replicate, Option, Some, None}
+-- One step of a thread: Caesium (RefinedC, PLDI 2021), as this project's own machine with a row of operands.
+-- By cases on what the innermost frame does next.
+use Rattle.std.specs.Prelude.{◌≡◌, ◌==◌, if◌then◌else◌, List, [], ◌∷◌, length, Option, Some, None, Result, Ok, Err}
 use Rattle.layouts.specs.declared.layout.Layout.{Layout}
-use Rattle.layouts.specs.Layout.{bytes_of}
+use Rattle.layouts.specs.declared.table.Table.{Table}
+use Rattle.layouts.specs.Table.{bytes_of}
 use Rattle.byte_memory.specs.declared.byte.MByte.{MByte}
-use Rattle.byte_memory.specs.declared.byte.MByte.TheVariants as bytes
-use Rattle.byte_memory.specs.Encoding.{enc}
+use Rattle.byte_memory.specs.declared.memory.Memory.{Memory}
 use Rattle.caesium_ir.specs.declared.operation.Op.{Op}
-use Rattle.caesium_ir.specs.declared.operation.Op.TheVariants.{Const, Poison}
 use Rattle.caesium_ir.specs.declared.block.End.{End}
 use Rattle.caesium_ir.specs.declared.block.End.TheVariants.{Goto, Return}
+use Rattle.caesium_ir.specs.declared.function.Function.{Function}
 use Rattle.caesium_ir.specs.declared.program.Program.{Program}
+use Rattle.thread_steps.specs.declared.answer.Ub.{Ub}
+use Rattle.thread_steps.specs.declared.answer.Ub.TheVariants.{PoisonUsed}
 use Rattle.thread_steps.specs.declared.frame.Frame.{Frame}
 use Rattle.thread_steps.specs.declared.thread.Thread.{Thread}
-use Rattle.thread_steps.specs.Frame.{entered, pushed}
+use Rattle.thread_steps.specs.declared.thread.Thread.TheVariants.{Running, Finished}
+use Rattle.thread_steps.specs.Frame.{entered, operands_on, operated}
+use Rattle.thread_steps.specs.Operations.{Made, operand_count, result_of}
 use Rattle.thread_steps.specs.Next.{NextOf, Runs, Ends, next_of}
-use Rattle.thread_steps.specs.Thread.{on_top, handed, IsFinished}
+use Rattle.thread_steps.specs.Thread.{returned}
 
--- an operation: a constant puts the bytes of its number on the row, and poison that many bytes of poison
-abbrev pub StepOp : Op → Frame → Thread → Thread → Type 0
-StepOp (Const of value) frame below new = new ≡ on_top (pushed (enc of value) frame) below
-StepOp (Poison size) frame below new = new ≡ on_top (pushed (replicate size bytes.Poison) frame) below
+-- what a step leaves: the thread and the memory after it, and the threads that it started
+pub record After : Type 0 where
+  pub thread : Thread
+  pub memory : Memory
+  pub started : List Thread
+
+-- this thread and this memory, and no thread started
+abbrev pub becomes : Thread → Memory → After
+becomes thread memory = record { thread = thread; memory = memory; started = [] }
+
+-- after an operation: its operands are off the row, and what it made is pushed
+abbrev pub after_op : Op → Frame → List Frame → Result Made Ub → Result After Ub
+after_op op frame callers (Ok made) =
+    Ok (becomes (Running (operated (operand_count op) made.value frame) callers) made.memory)
+after_op op frame callers (Err ub) = Err ub
+
+-- an operation: what it makes of the top of the row
+abbrev pub step_op : Table → Op → Frame → List Frame → Memory → Result After Ub
+step_op table op frame callers memory =
+    after_op op frame callers (result_of table op (operands_on (operand_count op) frame) memory)
 
 -- a return: of nothing from a void function, and else of the top of the row, which has the size of the result
-abbrev pub StepReturn : Option Layout → List (List MByte) → Thread → Thread → Type 0
-StepReturn None row below new = new ≡ below
-StepReturn (Some layout) [] below new = ⊥
-StepReturn (Some layout) (value ∷ row) below new = (length value ≡ bytes_of layout) × (new ≡ handed value below)
+abbrev pub step_return : Table → Option Layout → List (List MByte) → List Frame → Memory → Result After Ub
+step_return table None row callers memory = Ok (becomes (returned None callers) memory)
+step_return table (Some layout) [] callers memory = Err PoisonUsed
+step_return table (Some layout) (value ∷ row) callers memory =
+    if length value == bytes_of table layout then Ok (becomes (returned (Some value) callers) memory)
+    else Err PoisonUsed
 
 -- the end of a block: a `goto` enters a block with the same row, and a `return` leaves the function
-abbrev pub StepEnd : Option Layout → End → Frame → Thread → Thread → Type 0
-StepEnd result (Goto label) frame below new = new ≡ on_top (entered label frame) below
-StepEnd result Return frame below new = StepReturn result frame.row below new
+abbrev pub step_end : Table → Function → End → Frame → List Frame → Memory → Result After Ub
+step_end table function (Goto label) frame callers memory = Ok (becomes (Running (entered label frame) callers) memory)
+step_end table function Return frame callers memory = step_return table function.result frame.row callers memory
 
--- what the frame does next; where that is nothing, there is no step
-abbrev pub StepNext : Option NextOf → Frame → Thread → Thread → Type 0
-StepNext None frame below new = ⊥
-StepNext (Some (Runs op)) frame below new = StepOp op frame below new
-StepNext (Some (Ends result end)) frame below new = StepEnd result end frame below new
+-- what comes of what the frame does next; a frame that stands nowhere counts as poison used
+abbrev pub step_next : Table → Option NextOf → Frame → List Frame → Memory → Result After Ub
+step_next table None frame callers memory = Err PoisonUsed
+step_next table (Some (Runs function op)) frame callers memory = step_op table op frame callers memory
+step_next table (Some (Ends function end)) frame callers memory = step_end table function end frame callers memory
 
--- the step of the top frame; without a frame there is none
-abbrev pub StepFrames : Program → List Frame → Thread → Thread → Type 0
-StepFrames program [] old new = ⊥
-StepFrames program (frame ∷ callers) old new = StepNext (next_of program frame) frame (record old { frames = callers }) new
+-- what comes of a running thread: what its next step leaves, or the kind of undefined behaviour by which it has none
+abbrev pub step_of : Program → Frame → List Frame → Memory → Result After Ub
+step_of program top callers memory = step_next program.table (next_of program top) top callers memory
 
--- from one thread to the thread after
-abbrev pub Step : Program → Thread → Thread → Type 0
-Step program old new = StepFrames program old.frames old new
-
--- the thread is not finished and has no step
-pub record IsStuck (program : Program) (thread : Thread) : Type 0 where
-  pub unfinished : ¬ IsFinished thread
-  pub no_step : (new : Thread) → ¬ Step program thread new
+-- from a thread and a memory to what the step leaves; a finished thread has no step
+abbrev pub Step : Program → Thread → Memory → After → Type 0
+Step program (Running top callers) memory after = step_of program top callers memory ≡ Ok after
+Step program (Finished value) memory after = ⊥

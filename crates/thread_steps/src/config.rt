@@ -1,29 +1,64 @@
 ghost use Rattle.std.specs.Prelude.{◌≡◌, ◌<◌, length, IfOk};
-ghost use Rattle.thread_steps.specs.Config.{starting};
-ghost use Rattle.thread_steps.specs.StepEnds.{ConfigStepEnds};
+ghost use Rattle.caesium_ir.specs.WellFormed.{IsWellFormed};
+ghost use Rattle.thread_steps.specs.Configuration.{starting};
+ghost use Rattle.thread_steps.specs.Answer.{IsAnswer};
 
-use crate::outcome::Stepped;
+use crate::answer::Stepped;
 use crate::thread::Thread;
-use crate::threads::Threads;
+use byte_memory::Memory;
 use caesium_ir::Program;
-use rc_text::NoMemory;
+use rc_text::{Bytes, NoMemory};
 use std::alloc::Global;
+use std::marker::Model;
 
-/// All that a run of a program changes.
+/// All that a run of a program changes: its threads by their numbers, and the memory that they share.
 #[derive(Debug, Drop)]
 pub struct Config {
-    pub threads: Threads,
+    threads: Vec<Thread>,
+    memory: Memory,
 }
 
-/// A configuration of this many threads, each of which calls the function and has done nothing yet.
-pub fn start(alloc: Global, function: &str, count: usize) -> Result<Config, NoMemory>
-    ensures { IfOk result (λ config. config ≡ starting count function.now) }
-{
-    let mut threads = Threads::new(alloc);
-    for _made in 0..count {
-        threads.push(Thread::start(alloc, function)?)?;
+impl Model for Config {
+    ghost use Rattle.thread_steps.specs.Configuration.{Configuration};
+
+    ghost Value = { Configuration };
+
+    ghost view = { λ config. record { threads = config.threads.items; memory = config.memory } };
+}
+
+impl Config {
+    pub fn new(threads: Vec<Thread>, memory: Memory) -> Self
+        ensures { result ≡ record { threads = threads.items; memory = memory } }
+    {
+        Config { threads, memory }
     }
-    Ok(Config { threads })
+
+    pub fn threads(&self) -> &[Thread]
+        ensures { result.now ≡ self.now.threads }
+    {
+        self.threads.as_slice()
+    }
+
+    pub fn memory(&self) -> &Memory
+        ensures { result.now ≡ self.now.memory }
+    {
+        &self.memory
+    }
+}
+
+/// A configuration of a thread for each of these names, which calls the function of the name and has done
+/// nothing yet, and of a memory of which no block was ever opened.
+pub fn start(alloc: Global, functions: &[Bytes]) -> Result<Config, NoMemory>
+    ensures { IfOk result (λ config. config ≡ starting functions.now) }
+{
+    let mut threads = Vec::new(alloc);
+    for function in functions {
+        threads.push(Thread::start(alloc, function.as_slice())?)?;
+    }
+    Ok(Config {
+        threads,
+        memory: Memory::new(alloc),
+    })
 }
 
 /// Takes the next step of thread i, which the program and the configuration determine. After an error
@@ -34,8 +69,10 @@ pub fn step(
     i: usize,
     program: &Program,
 ) -> Result<Stepped, NoMemory>
-    requires { i < length config.old.threads }
-    ensures { IfOk result (λ outcome. ConfigStepEnds program.now i config.old config.new outcome) }
+    requires thread { i < length config.old.threads }
+    requires well_formed { IsWellFormed program.now }
+    ensures { IfOk result (λ answer. IsAnswer program.now i config.old config.new answer) }
 {
-    config.threads.step(alloc, i, program)
+    let thread = &mut config.threads[i];
+    thread.step(alloc, program, &mut config.memory)
 }

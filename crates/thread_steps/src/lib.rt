@@ -1,26 +1,25 @@
 //! How threads run a Caesium program (RefinedC, PLDI 2021), one step of one thread at a time. A layer
-//! above makes a configuration by `start`, and moves it by `step`.
+//! above makes a configuration by `start`, and moves it by `step`; a semantics of structured C takes the
+//! operations by `operate`.
 #![tactic(auto)]
 
+mod answer;
 mod config;
 mod frame;
-mod frames;
 mod laws;
 mod next;
-mod outcome;
-mod row;
+mod operations;
+mod stack;
 mod thread;
-mod threads;
 
+pub use answer::{Stepped, Ub};
 pub use config::{Config, start, step};
 pub use frame::Frame;
-pub use frames::Frames;
-pub use laws::{literal_runs_are_sound, steps_are_determined};
+pub use laws::{literal_runs_are_sound, running_threads_step_or_are_stuck, steps_are_determined};
 pub use next::{Next, find_next};
-pub use outcome::{Stepped, Ub};
-pub use row::Row;
+pub use operations::{operand_count, operate};
+pub use stack::Stack;
 pub use thread::Thread;
-pub use threads::Threads;
 
 #[cfg(test)]
 mod tests;

@@ -1,23 +1,24 @@
+ghost use Rattle.std.specs.Prelude.{◌≡◌, IfOk, IfSome};
+ghost use Rattle.caesium_ir.specs.WellFormed.{IsWellFormed};
+
 use super::*;
-use byte_memory::{MByte, Value};
-use caesium_ir::{
-    Block, Blocks, End, Function, Functions, LiteralPlaces, Op, Operations, PlacedOp, Program,
-    one_literal,
-};
-use layouts::{IntType, Layout};
-use rc_text::{NoMemory, Place, Text};
+use byte_memory::{MByte, Memory, Value};
+use caesium_ir::{Block, End, Function, LiteralPlaces, Op, PlacedOp, Program, one_literal};
+use layouts::{IntType, Layout, Table};
+use rc_text::{Bytes, NoMemory, Place};
+use sqlite_items::Items;
 use std::alloc::Global;
 use std::process::Abort;
 use std::test::Fail;
 
-const SEVEN: [MByte; 4] = [
-    MByte::Byte(0x07),
-    MByte::Byte(0x00),
-    MByte::Byte(0x00),
-    MByte::Byte(0x00),
-];
+const NOWHERE: LiteralPlaces = LiteralPlaces {
+    name: Place::START,
+    body: Place::START,
+    return_: Place::START,
+    literal: Place::START,
+};
 
-/// Where a thread of the program for the literal 7 can be.
+/// Where a thread of a program for a literal can be.
 #[derive(Clone, Copy)]
 enum At {
     Start,
@@ -26,40 +27,62 @@ enum At {
     End,
 }
 
-fn seven(alloc: Global) -> Result<Program, NoMemory> {
-    let places = LiteralPlaces {
-        name: Place::START,
-        body: Place::START,
-        return_: Place::START,
-        literal: Place::START,
-    };
-    one_literal(alloc, "seven", 7, places)
+/// Two functions, each of which returns a literal of its own.
+fn seven_and_eight(alloc: Global) -> Result<Program, NoMemory>
+    ensures { IfOk result (λ program. IsWellFormed program) }
+{
+    let Program {
+        table,
+        mut functions,
+    } = one_literal(alloc, b"seven", 7, NOWHERE)?;
+    let eight = one_literal(alloc, b"eight", 8, NOWHERE)?;
+    functions.append(eight.functions)?;
+    Ok(Program { table, functions })
 }
 
-/// A function with a result of type int, and one block with one end and these operations.
-fn one_block(alloc: Global, op: Option<Op>) -> Result<Program, NoMemory> {
-    let mut operations = Operations::new(alloc);
-    if let Some(op) = op {
+/// A function with one block, which may push poison of some bytes before it returns.
+fn one_block(
+    alloc: Global,
+    result_layout: Option<Layout>,
+    poison: Option<u32>,
+) -> Result<Program, NoMemory>
+    requires { IfSome result_layout (λ layout. layout ≡ Layout.Int IntType.Int) }
+    ensures { IfOk result (λ program. IsWellFormed program) }
+{
+    let mut operations = Items::new(alloc);
+    if let Some(size) = poison {
         operations.push(PlacedOp {
-            op,
+            op: Op::Poison { size },
             place: Place::START,
         })?;
     }
-    let mut blocks = Blocks::new(alloc);
+    let mut blocks = Items::new(alloc);
     blocks.push(Block {
-        label: Text::from_str(alloc, ".")?,
+        label: Bytes::from_slice(alloc, b".")?,
         operations,
         end: End::Return,
         end_place: Place::START,
     })?;
-    let mut functions = Functions::new(alloc);
+    let mut functions = Items::new(alloc);
     functions.push(Function {
-        name: Text::from_str(alloc, "short")?,
-        result: Some(Layout::Int(IntType::Int)),
+        name: Bytes::from_slice(alloc, b"short")?,
+        result: result_layout,
         blocks,
         place: Place::START,
     })?;
-    Ok(Program { functions })
+    Ok(Program {
+        table: Table::new(alloc),
+        functions,
+    })
+}
+
+/// A thread for each of the names.
+fn threads_of(alloc: Global, names: &[&[u8]]) -> Result<Config, NoMemory> {
+    let mut functions = Vec::new(alloc);
+    for name in names {
+        functions.push(Bytes::from_slice(alloc, name)?)?;
+    }
+    start(alloc, functions.as_slice())
 }
 
 fn step_at(
@@ -68,73 +91,84 @@ fn step_at(
     config: &mut Config,
     i: usize,
     program: &Program,
-) -> Result<Stepped, NoMemory> {
-    assert!(rt; i < config.threads.len());
+) -> Result<Stepped, NoMemory>
+    requires { IsWellFormed program.now }
+{
+    assert!(rt; i < config.threads().len());
     step(alloc, config, i, program)
+}
+
+/// The bytes of the literal as an `int`.
+fn is_literal(value: &Value, literal: u8) -> bool {
+    let zero = MByte::Byte(0);
+    value.as_slice() == [MByte::Byte(literal), zero, zero, zero].as_slice()
+}
+
+/// The innermost call of a running thread that has no other.
+fn only_frame(thread: &Thread) -> Result<&Frame, Fail> {
+    match thread {
+        Thread::Running { top, callers } if callers.is_empty() => Ok(top),
+        _ => Err("another thread".into()),
+    }
 }
 
 fn expect_frame(
     rt: &impl Abort,
     thread: &Thread,
-    label: &str,
+    label: &[u8],
     operation: usize,
-    row: &[&[MByte]],
+    literal: Option<u8>,
 ) -> Result<(), Fail> {
-    assert!(rt; thread.returned.is_none());
-    assert_eq!(rt; thread.frames.len(), 1);
-    let frame = thread.frames.top().ok_or("no frame")?;
-    assert!(rt; frame.label.as_str() == label);
+    let frame = only_frame(thread)?;
+    assert!(rt; frame.label.as_slice() == label);
     assert_eq!(rt; frame.operation, operation);
-    assert_eq!(rt; frame.row.len(), row.len());
-    if let [top] = row {
-        let value = frame.row.top().ok_or("no value")?;
-        assert_eq!(rt; value.as_slice(), *top);
+    match literal {
+        None => assert!(rt; frame.row.is_empty()),
+        Some(literal) => {
+            assert_eq!(rt; frame.row.len(), 1);
+            let value = frame.row.top().ok_or("no value")?;
+            assert!(rt; is_literal(value, literal));
+        }
     }
     Ok(())
 }
 
-fn expect_at(rt: &impl Abort, config: &Config, i: usize, at: At) -> Result<(), Fail> {
-    let threads = config.threads.as_slice();
-    assert!(rt; i < threads.len());
-    let thread = &threads[i];
+fn expect_finished(rt: &impl Abort, thread: &Thread, literal: u8) -> Result<(), Fail> {
+    let Thread::Finished(Some(value)) = thread else {
+        return Err("no value".into());
+    };
+    assert!(rt; is_literal(value, literal));
+    Ok(())
+}
+
+fn expect_at(rt: &impl Abort, config: &Config, i: usize, at: At, literal: u8) -> Result<(), Fail> {
+    let thread = config.threads().get(i).ok_or("no thread")?;
     match at {
-        At::Start => expect_frame(rt, thread, ".", 0, &[]),
-        At::Constant => expect_frame(rt, thread, ".0", 0, &[]),
-        At::Return => expect_frame(rt, thread, ".0", 1, &[&SEVEN]),
-        At::End => {
-            assert!(rt; thread.frames.is_empty());
-            let value = thread.returned.as_ref().ok_or("no value")?;
-            assert_eq!(rt; value.as_slice(), SEVEN.as_slice());
-            Ok(())
-        }
+        At::Start => expect_frame(rt, thread, b".", 0, None),
+        At::Constant => expect_frame(rt, thread, b".0", 0, None),
+        At::Return => expect_frame(rt, thread, b".0", 1, Some(literal)),
+        At::End => expect_finished(rt, thread, literal),
     }
 }
 
-#[test]
-fn one_thread(rt: HostRuntime) -> Result<(), Fail> {
-    let alloc = rt.alloc();
-    let program = seven(alloc)?;
-    let mut config = start(alloc, "seven", 1)?;
-    assert_eq!(rt; config.threads.len(), 1);
-    expect_at(&rt, &config, 0, At::Start)?;
-    for at in [At::Constant, At::Return, At::End] {
-        assert_eq!(rt;
-            step_at(&rt, alloc, &mut config, 0, &program)?,
-            Stepped::Moved
-        );
-        expect_at(&rt, &config, 0, at)?;
+/// Runs `seven` and `eight` as threads: each row says which thread steps, and where both are then.
+fn run(rt: &impl Abort, alloc: Global, schedule: &[(usize, At, At)]) -> Result<(), Fail> {
+    let program = seven_and_eight(alloc)?;
+    let mut config = threads_of(alloc, &[b"seven", b"eight"])?;
+    assert_eq!(rt; config.threads().len(), 2);
+    for (i, first, second) in schedule {
+        let answer = step_at(rt, alloc, &mut config, *i, &program)?;
+        assert_eq!(rt; answer, Stepped::Stepped);
+        expect_at(rt, &config, 0, *first, 7)?;
+        expect_at(rt, &config, 1, *second, 8)?;
     }
-    assert_eq!(rt;
-        step_at(&rt, alloc, &mut config, 0, &program)?,
-        Stepped::Finished
-    );
-    expect_at(&rt, &config, 0, At::End)
+    let answer = step_at(rt, alloc, &mut config, 0, &program)?;
+    assert_eq!(rt; answer, Stepped::Finished);
+    expect_at(rt, &config, 0, At::End, 7)
 }
 
 #[test]
 fn two_threads(rt: HostRuntime) -> Result<(), Fail> {
-    let alloc = rt.alloc();
-    let program = seven(alloc)?;
     let in_turn = [
         (0, At::Constant, At::Start),
         (1, At::Constant, At::Constant),
@@ -151,56 +185,99 @@ fn two_threads(rt: HostRuntime) -> Result<(), Fail> {
         (0, At::Return, At::End),
         (0, At::End, At::End),
     ];
-    for schedule in [in_turn, second_first] {
-        let mut config = start(alloc, "seven", 2)?;
-        for (i, first, second) in schedule {
-            assert_eq!(rt;
-                step_at(&rt, alloc, &mut config, i, &program)?,
-                Stepped::Moved
-            );
-            expect_at(&rt, &config, 0, first)?;
-            expect_at(&rt, &config, 1, second)?;
-        }
+    run(&rt, rt.alloc(), &in_turn)?;
+    run(&rt, rt.alloc(), &second_first)
+}
+
+/// Takes so many steps of a thread of the name, and expects the next one undefined, and nothing changed.
+fn expect_undefined(
+    rt: &impl Abort,
+    alloc: Global,
+    poison: Option<u32>,
+    name: &[u8],
+    steps: usize,
+) -> Result<(), Fail> {
+    let program = one_block(alloc, Some(Layout::Int(IntType::Int)), poison)?;
+    let mut config = threads_of(alloc, &[name])?;
+    for _step in 0..steps {
+        let answer = step_at(rt, alloc, &mut config, 0, &program)?;
+        assert_eq!(rt; answer, Stepped::Stepped);
     }
+    let answer = step_at(rt, alloc, &mut config, 0, &program)?;
+    assert_eq!(rt; answer, Stepped::Undefined(Ub::PoisonUsed));
+    let frame = only_frame(config.threads().get(0).ok_or("no thread")?)?;
+    assert_eq!(rt; frame.operation, steps);
+    assert_eq!(rt; frame.row.len(), steps);
     Ok(())
 }
 
 #[test]
 fn undefined_at_return(rt: HostRuntime) -> Result<(), Fail> {
     let alloc = rt.alloc();
-    let undefined = Stepped::Undefined(Ub::PoisonUsed);
+    expect_undefined(&rt, alloc, None, b"short", 0)?;
+    expect_undefined(&rt, alloc, Some(2), b"short", 1)?;
+    expect_undefined(&rt, alloc, None, b"absent", 0)
+}
 
-    let program = one_block(alloc, None)?;
-    let mut config = start(alloc, "short", 1)?;
-    assert_eq!(rt; step_at(&rt, alloc, &mut config, 0, &program)?, undefined);
-    expect_at(&rt, &config, 0, At::Start)?;
+#[test]
+fn nothing_is_returned(rt: HostRuntime) -> Result<(), Fail> {
+    let alloc = rt.alloc();
+    let program = one_block(alloc, None, Some(1))?;
+    let mut config = threads_of(alloc, &[b"short"])?;
+    for _step in 0..2 {
+        let answer = step_at(&rt, alloc, &mut config, 0, &program)?;
+        assert_eq!(rt; answer, Stepped::Stepped);
+    }
+    let thread = config.threads().get(0).ok_or("no thread")?;
+    assert!(rt; matches!(thread, Thread::Finished(None)));
+    Ok(())
+}
 
-    let program = one_block(alloc, Some(Op::Poison { size: 2 }))?;
-    let mut config = start(alloc, "short", 1)?;
-    assert_eq!(rt;
-        step_at(&rt, alloc, &mut config, 0, &program)?,
-        Stepped::Moved
-    );
-    assert_eq!(rt; step_at(&rt, alloc, &mut config, 0, &program)?, undefined);
-    let threads = config.threads.as_slice();
-    assert_eq!(rt; threads.len(), 1);
-    expect_frame(&rt, &threads[0], ".", 1, &[&[MByte::Poison, MByte::Poison]])?;
+/// A thread in a call of `short`, which returns 7, from the function `outer`.
+fn called(alloc: Global) -> Result<Thread, NoMemory> {
+    let mut callers = Stack::new(alloc);
+    callers.push(Frame::start(alloc, b"outer")?)?;
+    let mut top = Frame::start(alloc, b"short")?;
+    top.row.push(Value::of_int(alloc, IntType::Int, 7)?)?;
+    Ok(Thread::Running { top, callers })
+}
 
-    let mut config = start(alloc, "absent", 1)?;
-    assert_eq!(rt; step_at(&rt, alloc, &mut config, 0, &program)?, undefined);
-    expect_at(&rt, &config, 0, At::Start)
+/// Returns to the function `outer`, and expects this on its row.
+fn expect_caller(
+    rt: &impl Abort,
+    alloc: Global,
+    program: &Program,
+    literal: Option<u8>,
+) -> Result<(), Fail>
+    requires { IsWellFormed program.now }
+{
+    let mut thread = called(alloc)?;
+    let answer = thread.step(alloc, program, &mut Memory::new(alloc))?;
+    assert_eq!(rt; answer, Stepped::Stepped);
+    expect_frame(rt, &thread, b".", 0, literal)
 }
 
 #[test]
 fn value_for_the_caller(rt: HostRuntime) -> Result<(), Fail> {
     let alloc = rt.alloc();
-    let program = seven(alloc)?;
-    let mut thread = Thread::start(alloc, "outer")?;
-    let mut frame = Frame::start(alloc, "seven")?;
-    frame.enter(alloc, ".0")?;
-    frame.row.push(Value::poison(alloc, 1)?)?;
-    thread.frames.push(frame)?;
-    assert_eq!(rt; thread.step(alloc, &program)?, Stepped::Moved);
-    assert_eq!(rt; thread.step(alloc, &program)?, Stepped::Moved);
-    expect_frame(&rt, &thread, ".", 0, &[&SEVEN])
+    let with_value = one_block(alloc, Some(Layout::Int(IntType::Int)), None)?;
+    expect_caller(&rt, alloc, &with_value, Some(7))?;
+    let void = one_block(alloc, None, None)?;
+    expect_caller(&rt, alloc, &void, None)
+}
+
+#[test]
+fn stack_of_numbers(rt: HostRuntime) -> Result<(), Fail> {
+    let mut stack = Stack::new(rt.alloc());
+    assert!(rt; stack.is_empty());
+    for number in [1, 2, 3, 4] {
+        stack.push(number)?;
+    }
+    assert_eq!(rt; stack.topmost(2), [3, 4].as_slice());
+    assert_eq!(rt; stack.topmost(9), [1, 2, 3, 4].as_slice());
+    stack.drop_topmost(2);
+    assert_eq!(rt; stack.top().copied(), Some(2));
+    stack.drop_topmost(9);
+    assert_eq!(rt; stack.pop(), None);
+    Ok(())
 }

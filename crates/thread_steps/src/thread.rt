@@ -1,131 +1,185 @@
-ghost use Rattle.std.specs.Prelude.{◌≡◌, ◌+◌, ◌<◌, ◌^◌, IfOk, OnOk};
-ghost use Rattle.thread_steps.specs.Frame.{entered};
-ghost use Rattle.thread_steps.specs.Thread.{starting_thread, on_top, handed};
-ghost use Rattle.thread_steps.specs.Step.{StepOp};
-ghost use Rattle.thread_steps.specs.StepEnds.{StepEnds, FrameStepEnds, ReturnEnds};
+ghost use Rattle.std.specs.Prelude.{◌≡◌, ◌+◌, ◌<◌, ◌^◌, IfOk};
+ghost use Rattle.byte_memory.specs.declared.memory.Memory.{Memory};
+ghost use Rattle.caesium_ir.specs.WellFormed.{IsWellFormed, IsWellFormedResult};
+ghost use Rattle.thread_steps.specs.Thread.{starting_thread, returned};
+ghost use Rattle.thread_steps.specs.Step.{step_of, step_op, step_end, step_return};
+ghost use Rattle.thread_steps.specs.Answer.{IsThreadAnswer, IsAnswerTo};
 
+use crate::answer::{Stepped, Ub};
 use crate::frame::Frame;
-use crate::frames::Frames;
 use crate::next::{Next, find_next};
-use crate::outcome::{Stepped, Ub};
-use byte_memory::Value;
-use caesium_ir::{End, Op, Program};
-use layouts::{Layout, size_of};
+use crate::operations::{operand_count, operate};
+use crate::stack::Stack;
+use byte_memory::{Memory, Value};
+use caesium_ir::{End, Function, Op, Program};
+use layouts::{Layout, Table, size_of};
 use rc_text::NoMemory;
 use std::alloc::Global;
+use std::mem;
 
-/// A thread: its frames, and the value that its first function returned. It is finished where it has no
-/// frame.
+/// A thread.
 #[derive(Debug, Drop)]
-pub struct Thread {
-    pub frames: Frames,
-    pub returned: Option<Value>,
+pub enum Thread {
+    /// It is in this call, whose callers wait for it.
+    Running { top: Frame, callers: Stack<Frame> },
+    /// Its first function has returned, with this value where it is not void.
+    Finished(Option<Value>),
 }
 
 impl Thread {
     /// A thread that calls the function and has done nothing yet.
-    pub fn start(alloc: Global, function: &str) -> Result<Self, NoMemory>
+    pub fn start(alloc: Global, function: &[u8]) -> Result<Self, NoMemory>
         ensures { IfOk result (λ thread. thread ≡ starting_thread function.now) }
     {
-        let mut frames = Frames::new(alloc);
-        frames.push(Frame::start(alloc, function)?)?;
-        Ok(Thread {
-            frames,
-            returned: None,
+        Ok(Thread::Running {
+            top: Frame::start(alloc, function)?,
+            callers: Stack::new(alloc),
         })
     }
 
-    /// Takes the thread's next step. After an error nothing is known of the thread.
-    pub fn step(&mut self, alloc: Global, program: &Program) -> Result<Stepped, NoMemory>
-        ensures { IfOk result (λ outcome. StepEnds program.now self.old self.new outcome) }
-    {
-        match self.frames.pop() {
-            None => Ok(Stepped::Finished),
-            Some(frame) => self.step_frame(alloc, program, frame),
-        }
-    }
-
-    fn step_frame(
+    /// Takes the thread's next step. After an error nothing is known of the thread and the memory.
+    pub(crate) fn step(
         &mut self,
         alloc: Global,
         program: &Program,
-        frame: Frame,
+        memory: &mut Memory,
     ) -> Result<Stepped, NoMemory>
-        ensures { IfOk result (λ outcome. FrameStepEnds program.now frame self.old self.new outcome) }
+        requires { IsWellFormed program.now }
+        ensures { IfOk result (λ answer. IsThreadAnswer program.now self.old memory.old self.new memory.new answer) }
     {
-        match find_next(program, &frame) {
-            None => self.put_back(frame),
-            Some(Next::Operation(op)) => self.operate(alloc, frame, op),
-            Some(Next::Ending(_, End::Goto(label))) => self.enter(alloc, frame, label.as_str()),
-            Some(Next::Ending(result_layout, End::Return)) => self.leave(frame, result_layout),
+        let (thread, answer) = match mem::replace(self, Thread::Finished(None)) {
+            Thread::Running { top, callers } => step_frame(alloc, program, top, callers, memory)?,
+            finished => (finished, Stepped::Finished),
+        };
+        *self = thread;
+        Ok(answer)
+    }
+}
+
+/// The step of a thread with these frames.
+fn step_frame(
+    alloc: Global,
+    program: &Program,
+    top: Frame,
+    callers: Stack<Frame>,
+    memory: &mut Memory,
+) -> Result<(Thread, Stepped), NoMemory>
+    requires { IsWellFormed program.now }
+    ensures { let expected = step_of program.now top callers memory.old in
+        let old = Thread.Running top callers in
+        IfOk result (λ after. IsAnswerTo expected old memory.old after.0 memory.new after.1) }
+{
+    match find_next(program, &top) {
+        None => Ok(undefined(top, callers)),
+        Some(Next::Operation(_, op)) => {
+            step_operation(alloc, &program.table, op, top, callers, memory)
+        }
+        Some(Next::Ending(function, end)) => {
+            step_ending(alloc, &program.table, function, end, top, callers)
         }
     }
+}
 
-    fn put_back(&mut self, frame: Frame) -> Result<Stepped, NoMemory>
-        ensures { IfOk result (λ outcome. (outcome ≡ Stepped.Undefined Ub.PoisonUsed) × (self.new ≡ on_top frame self.old)) }
-    {
-        self.frames.push(frame)?;
-        Ok(Stepped::Undefined(Ub::PoisonUsed))
-    }
-
-    fn operate(&mut self, alloc: Global, mut frame: Frame, op: Op) -> Result<Stepped, NoMemory>
-        requires { frame.operation + 1 < 2 ^ 64 }
-        ensures { IfOk result (λ outcome. (outcome ≡ Stepped.Moved) × StepOp op frame self.old self.new) }
-    {
-        match op {
-            Op::Const { of, value } => frame.push(Value::of_int(alloc, of, value)?)?,
-            Op::Poison { size } => frame.push(Value::poison(alloc, size)?)?,
+/// An operation.
+fn step_operation(
+    alloc: Global,
+    table: &Table,
+    op: &Op,
+    mut top: Frame,
+    callers: Stack<Frame>,
+    memory: &mut Memory,
+) -> Result<(Thread, Stepped), NoMemory>
+    requires { top.operation + 1 < 2 ^ 64 }
+    ensures { let expected = step_op table.now op.now top callers memory.old in
+        let old = Thread.Running top callers in
+        IfOk result (λ after. IsAnswerTo expected old memory.old after.0 memory.new after.1) }
+{
+    let count = operand_count(op);
+    let answer = match operate(alloc, table, op, top.row.topmost(count), memory)? {
+        Ok(value) => {
+            top.operate(count, value)?;
+            Stepped::Stepped
         }
-        self.frames.push(frame)?;
-        Ok(Stepped::Moved)
-    }
+        Err(ub) => Stepped::Undefined(ub),
+    };
+    Ok((Thread::Running { top, callers }, answer))
+}
 
-    fn enter(&mut self, alloc: Global, mut frame: Frame, label: &str) -> Result<Stepped, NoMemory>
-        ensures { IfOk result (λ outcome. (outcome ≡ Stepped.Moved) × (self.new ≡ on_top (entered label.now frame) self.old)) }
-    {
-        frame.enter(alloc, label)?;
-        self.frames.push(frame)?;
-        Ok(Stepped::Moved)
-    }
-
-    fn leave(&mut self, frame: Frame, result_layout: Option<Layout>) -> Result<Stepped, NoMemory>
-        ensures { IfOk result (λ outcome. ReturnEnds result_layout frame self.old self.new outcome) }
-    {
-        match result_layout {
-            None => Ok(Stepped::Moved),
-            Some(layout) => self.leave_with(frame, layout),
+/// The end of a block.
+fn step_ending(
+    alloc: Global,
+    table: &Table,
+    function: &Function,
+    end: &End,
+    mut top: Frame,
+    callers: Stack<Frame>,
+) -> Result<(Thread, Stepped), NoMemory>
+    requires { IsWellFormedResult table.now function.now.result }
+    ensures { (memory : Memory) →
+        let expected = step_end table.now function.now end.now top callers memory in
+        let old = Thread.Running top callers in
+        IfOk result (λ after. IsAnswerTo expected old memory after.0 memory after.1) }
+{
+    match end {
+        End::Goto(label) => {
+            top.enter(alloc, label.as_slice())?;
+            Ok((Thread::Running { top, callers }, Stepped::Stepped))
         }
+        End::Return => step_leaving(table, function.result, top, callers),
     }
+}
 
-    fn leave_with(&mut self, mut frame: Frame, layout: Layout) -> Result<Stepped, NoMemory>
-        ensures { IfOk result (λ outcome. ReturnEnds (Some layout) frame self.old self.new outcome) }
-    {
-        match frame.row.pop() {
-            None => self.put_back(frame),
-            Some(value) => {
-                if value.len() == size_of(layout) as usize {
-                    self.hand(value)?;
-                    Ok(Stepped::Moved)
-                } else {
-                    frame.row.push(value)?;
-                    self.put_back(frame)
-                }
-            }
+/// A return from a function of this result.
+fn step_leaving(
+    table: &Table,
+    result_layout: Option<Layout>,
+    mut top: Frame,
+    callers: Stack<Frame>,
+) -> Result<(Thread, Stepped), NoMemory>
+    requires { IsWellFormedResult table.now result_layout }
+    ensures { (memory : Memory) →
+        let expected = step_return table.now result_layout top.row callers memory in
+        let old = Thread.Running top callers in
+        IfOk result (λ after. IsAnswerTo expected old memory after.0 memory after.1) }
+{
+    let Some(layout) = result_layout else {
+        return Ok((return_to(callers, None)?, Stepped::Stepped));
+    };
+    match top.row.pop() {
+        Some(value) if value.len() == size_of(layout, table) as usize => {
+            Ok((return_to(callers, Some(value))?, Stepped::Stepped))
         }
+        Some(value) => {
+            top.row.push(value)?;
+            Ok(undefined(top, callers))
+        }
+        None => Ok(undefined(top, callers)),
     }
+}
 
-    fn hand(&mut self, value: Value) -> Result<(), NoMemory>
-        ensures { OnOk result (self.new ≡ handed value self.old) }
-    {
-        match self.frames.pop() {
-            None => {
-                self.returned = Some(value);
-            }
-            Some(mut caller) => {
-                caller.row.push(value)?;
-                self.frames.push(caller)?;
-            }
+/// These frames as they were, where an operand is poison or missing.
+fn undefined(top: Frame, callers: Stack<Frame>) -> (Thread, Stepped)
+    ensures thread { result.0 ≡ Thread.Running top callers }
+    ensures answer { result.1 ≡ Stepped.Undefined Ub.PoisonUsed }
+{
+    (
+        Thread::Running { top, callers },
+        Stepped::Undefined(Ub::PoisonUsed),
+    )
+}
+
+/// The thread after a return to these callers.
+fn return_to(mut callers: Stack<Frame>, value: Option<Value>) -> Result<Thread, NoMemory>
+    ensures { IfOk result (λ thread. thread ≡ returned value callers) }
+{
+    match callers.pop() {
+        None => Ok(Thread::Finished(value)),
+        Some(mut caller) => {
+            caller.give(value)?;
+            Ok(Thread::Running {
+                top: caller,
+                callers,
+            })
         }
-        Ok(())
     }
 }

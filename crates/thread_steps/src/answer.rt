@@ -1,4 +1,4 @@
-/// Why a step has no meaning.
+/// Why a thread has no next step.
 #[derive(Clone, Copy, Debug, PartialEq, Eq, Hash)]
 pub enum Ub {
     /// An operand that the step needs is poison, has another length than its layout, or is missing. What
@@ -6,12 +6,12 @@ pub enum Ub {
     PoisonUsed,
 }
 
-/// What came of a step.
+/// What came of a call of `step`.
 #[derive(Clone, Copy, Debug, PartialEq, Eq, Hash)]
 pub enum Stepped {
     /// The thread took its next step.
-    Moved,
-    /// The thread has returned from its last function, and nothing changed.
+    Stepped,
+    /// The thread has returned from its first function, and nothing changed.
     Finished,
     /// The thread has no next step, and nothing changed.
     Undefined(Ub),
