@@ -12,15 +12,8 @@ use Rattle.rc_text.specs.declared.place.Place.{Place}
 use Rattle.c_lexer.specs.declared.token.Token.{Token}
 use Rattle.c_lexer.specs.declared.token.IntegerConstant.{IntegerConstant}
 use Rattle.c_lexer.specs.declared.token.TokenKind.{TokenKind}
-use Rattle.c_lexer.specs.declared.token.TokenKind.TheVariants.{Identifier, Integer}
+use Rattle.c_lexer.specs.declared.token.TokenKind.TheVariants.{Integer}
 use Rattle.refinedc_cli.specs.declared.one_literal.OneLiteral.{OneLiteral}
-use Rattle.c_lexer.specs.Bytes.{is_letter, is_word_byte}
-use Rattle.c_lexer.specs.Spelling.{is_word}
-use Rattle.std.specs.List.{list_all}
-use Rattle.std.specs.Str.{IsAscii, IsUtf8}
-use Rattle.std.proofs.lemmas.Str.{IsUtf8-from_ascii}
-use Rattle.std.proofs.lemmas.Bool.Decides.{nat_tests}
-use Rattle.refinedc_cli.specs.Reading.{NamesAreWords}
 use Rattle.refinedc_cli.specs.OneLiteral.{decimal_constant, form_kinds, declaration, IsSpelledAt, StandsAt, IsOneLiteral}
 
 -- the token of a kind that stands at a place
@@ -103,38 +96,6 @@ form_unique tokens a b is_a is_b =
 -- the form names its function
 pub name_of_form : (tokens : List Token) (form : OneLiteral) → IsOneLiteral tokens form → (token : Token) × (slice_get tokens 11 ≡ Some token)
 name_of_form tokens form is = (is.name_place.0, is.name_place.1)
-
-both : (a b : Bool) → (a && b) ≡ true → (a ≡ true) × (b ≡ true)
-both true b h = (refl, h)
-both false b h = absurd (cc h)
-
-letter_is_ascii : (b : ℕ) → is_letter b ≡ true → b < 128
-letter_is_ascii b is = grind (arith, nat_tests)
-
-word_byte_is_ascii : (b : ℕ) → is_word_byte b ≡ true → b < 128
-word_byte_is_ascii b is = grind (arith, nat_tests)
-
-word_bytes_are_ascii : (bytes : List ℕ) → list_all is_word_byte bytes ≡ true → IsAscii bytes
-word_bytes_are_ascii [] all i = omega arith
-word_bytes_are_ascii (b ∷ bytes) all zero = word_byte_is_ascii b (both (is_word_byte b) (list_all is_word_byte bytes) all).0
-word_bytes_are_ascii (b ∷ bytes) all (suc i) = word_bytes_are_ascii bytes (both (is_word_byte b) (list_all is_word_byte bytes) all).1 i
-
-word_is_ascii : (bytes : List ℕ) → is_word bytes ≡ true → IsAscii bytes
-word_is_ascii [] is i = omega arith
-word_is_ascii (b ∷ bytes) is zero = letter_is_ascii b (both (is_letter b) (list_all is_word_byte bytes) is).0
-word_is_ascii (b ∷ bytes) is (suc i) = word_bytes_are_ascii bytes (both (is_letter b) (list_all is_word_byte bytes) is).1 i
-
--- a word is text
-pub word_is_text : (bytes : List ℕ) → IsTrue (is_word bytes) → IsUtf8 bytes
-word_is_text bytes is = IsUtf8-from_ascii bytes (word_is_ascii bytes is)
-
--- the function's name is text
-pub name_is_text : (tokens : List Token) (form : OneLiteral) (token : Token) → NamesAreWords tokens → IsOneLiteral tokens form → slice_get tokens 11 ≡ Some token → IsUtf8 token.text
-name_is_text tokens form token words is there =
-    let found = token_of_kind tokens 11 Identifier (rw is.kinds refl) in
-    let same : found.0 ≡ token = cc (found.1, there) in
-    let kind : token.kind ≡ Identifier = ap (λ (t : Token). t.kind) (sym same) ∙ found.2 in
-    word_is_text token.text (words 11 token there kind)
 
 -- what stands at a place is the constant that was read there
 pub constant_there : (tokens : List Token) (token : Token) (constant : IntegerConstant) (result : Option ℕ) → slice_get tokens 17 ≡ Some token → token.kind ≡ Integer constant

@@ -1,6 +1,6 @@
 pub mod AnswerLemmas
 pub mod FormLemmas
 pub mod ListLemmas
-pub mod ReadingLemmas
+pub mod OutcomeLemmas
 pub mod RunLemmas
 pub mod TextLemmas

@@ -1,7 +1,12 @@
-pub mod Answer
+pub mod Command
+pub mod Delivery
+pub mod Limit
+pub mod Listing
 pub mod OneLiteral
-pub mod Reading
+pub mod Outcome
+pub mod Outside
+pub mod Rendering
 pub mod Run
+pub mod Soundness
 pub mod Status
 pub mod Texts
-pub mod Words

@@ -1,7 +1,7 @@
 -- The one form of file that is checked today: a function that returns a literal,
 --     [[rc::returns("K @ int<i32>")]] int f(void) { return L; }
 -- with K and L from 0 to 2147483647 in decimal digits without a leading zero, and any identifier for f.
-use Rattle.std.specs.Prelude.{◌≡◌, ℕ, ◌^◌, ◌<◌, List, [], ◌∷◌, ◌++◌, map, slice_get, Some, codes}
+use Rattle.std.specs.Prelude.{◌≡◌, ℕ, ◌^◌, ◌<◌, List, [], ◌∷◌, ◌++◌, map, slice_get, Option, Some, None, codes}
 use Rattle.std.specs.Fmt.{decimal}
 use Rattle.rc_text.specs.declared.place.Place.{Place}
 use Rattle.c_lexer.specs.declared.token.Token.{Token}
@@ -12,10 +12,9 @@ use Rattle.c_lexer.specs.declared.punctuator.Punctuator.TheVariants as sign
 use Rattle.c_lexer.specs.declared.token.IntegerConstant.{IntegerConstant}
 use Rattle.c_lexer.specs.declared.token.IntegerBase.TheVariants.{Decimal}
 use Rattle.c_lexer.specs.declared.token.IntegerSuffix.TheVariants.{Plain}
-use Rattle.c_lexer.specs.TokenLists.{TokenLists}
-use Rattle.c_lexer.specs.Files.{AreTokensOf}
 use Rattle.caesium_ir.specs.declared.program.Program.{Program}
 use Rattle.caesium_ir.specs.Literal.{literal_program}
+use Rattle.refinedc_cli.specs.declared.check.ReadFile.{ReadFile}
 use Rattle.refinedc_cli.specs.declared.one_literal.OneLiteral.{OneLiteral}
 
 -- a decimal constant without a suffix
@@ -29,7 +28,8 @@ form_kinds returned =
     ∷ Punctuator sign.OpenParenthesis ∷ StringLiteral ∷ Punctuator sign.CloseParenthesis
     ∷ Punctuator sign.CloseBracket ∷ Punctuator sign.CloseBracket ∷ Keyword keyword.Int ∷ Identifier
     ∷ Punctuator sign.OpenParenthesis ∷ Keyword keyword.Void ∷ Punctuator sign.CloseParenthesis
-    ∷ Punctuator sign.OpenBrace ∷ Keyword keyword.Return ∷ Integer (decimal_constant returned) ∷ Punctuator sign.Semicolon
+    ∷ Punctuator sign.OpenBrace ∷ Keyword keyword.Return ∷ Integer (decimal_constant returned)
+    ∷ Punctuator sign.Semicolon
     ∷ Punctuator sign.CloseBrace ∷ []
 
 -- the string that declares the returned value
@@ -61,14 +61,12 @@ pub record IsOneLiteral (tokens : List Token) (form : OneLiteral) : Type 0 where
 abbrev pub IsNoForm : List Token → Type 0
 IsNoForm tokens = (form : OneLiteral) → IsOneLiteral tokens form → ⊥
 
--- the file is of the form, with these literals and places
-abbrev pub IsOneLiteralFile : List ℕ → OneLiteral → Type 0
-IsOneLiteralFile bytes form = (lists : TokenLists) × AreTokensOf bytes lists × IsOneLiteral lists.tokens form
+-- the program of tokens of the form
+abbrev pub IsProgramOf : List Token → OneLiteral → Program → Type 0
+IsProgramOf tokens form program =
+    (name : List ℕ) × IsSpelledAt tokens 11 name × (program ≡ literal_program name form.returned form.places)
 
--- the program of the file, and the name of its function
-pub record IsProgramOfFile (bytes name : List ℕ) (form : OneLiteral) (program : Program) : Type 0 where
-  pub lists : TokenLists
-  pub read : AreTokensOf bytes lists
-  pub is : IsOneLiteral lists.tokens form
-  pub named : IsSpelledAt lists.tokens 11 name
-  pub built : program ≡ literal_program name form.returned form.places
+-- what tokens are read as: the form with its program, or nothing where they are others
+abbrev pub IsReadAs : List Token → Option ReadFile → Type 0
+IsReadAs tokens None = IsNoForm tokens
+IsReadAs tokens (Some read) = IsOneLiteral tokens read.form × IsProgramOf tokens read.form read.program

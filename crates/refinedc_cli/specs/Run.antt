@@ -1,105 +1,62 @@
--- What a run leaves on the outside, and when each status comes.
-use Rattle.std.specs.Prelude.{◌≡◌, ◌≢◌, ℕ, ◌<◌, ◌≤◌, ◌⊎◌, ◌↔◌, List, length, Option, Some, pos}
-use Rattle.rc_text.specs.Faults.{HasCause, last_fault}
-use Rattle.rc_text.specs.Sink.{appended, WrotePrefix}
-use Rattle.layouts.specs.declared.int_type.IntType.TheVariants.{Int}
-use Rattle.byte_memory.specs.Encoding.{enc}
-use Rattle.caesium_ir.specs.declared.program.Program.{Program}
-use Rattle.thread_steps.specs.declared.config.Config.{Config}
-use Rattle.thread_steps.specs.Config.{starting}
-use Rattle.thread_steps.specs.Run.{Run}
-use Rattle.thread_steps.specs.Soundness.{AreSound}
-use Rattle.refinedc_cli.specs.declared.answer.Answer.{Answer}
-use Rattle.refinedc_cli.specs.declared.one_literal.OneLiteral.{OneLiteral}
+-- What a run answers, and what it leaves on the outside (this project's own).
+use Rattle.std.specs.Prelude.{◌≡◌, ℕ, ◌⊎◌, List, [], ◌∷◌, ◌++◌, Option}
+use Rattle.rc_text.specs.Faults.{one_more}
+use Rattle.refinedc_cli.specs.declared.command.Command.{Command}
+use Rattle.refinedc_cli.specs.declared.outcome.Outcome.{Outcome}
+use Rattle.refinedc_cli.specs.declared.outcome.Outcome.TheVariants.{Unread}
+use Rattle.refinedc_cli.specs.declared.rendering.Rendering.{Rendering}
 use Rattle.refinedc_cli.specs.declared.status.Status.{Status}
-use Rattle.refinedc_cli.specs.declared.status.Status.TheVariants.{WriteFault, NoMemory}
-use Rattle.refinedc_cli.specs.Answer.{file_limit, IsAnswer}
-use Rattle.c_lexer.specs.declared.fault.LexFault.{LexFault}
-use Rattle.c_lexer.specs.Files.{AreTokensOf, IsFaultOf, token_limit}
-use Rattle.c_lexer.specs.TokenLists.{TokenLists}
-use Rattle.refinedc_cli.specs.OneLiteral.{IsOneLiteralFile, IsNoForm, IsProgramOfFile}
-use Rattle.refinedc_cli.specs.Texts.{write_fault_text, no_memory_text}
-use Rattle.refinedc_cli.specs.Words.{IsCheck}
+use Rattle.refinedc_cli.specs.declared.status.Status.TheVariants.{NoMemory}
+use Rattle.refinedc_cli.specs.Command.{Means, MeanNothing, files_of}
+use Rattle.refinedc_cli.specs.Delivery.{Puts, WritesFront, IsDelivered}
+use Rattle.refinedc_cli.specs.Outcome.{IsOutcome}
+use Rattle.refinedc_cli.specs.Outside.{Files, Outside, WasAskedFor, MayHold, Holds, IsUndisturbed}
+use Rattle.refinedc_cli.specs.Rendering.{rendering, usage_rendering}
+use Rattle.refinedc_cli.specs.Texts.{no_memory_text}
 
--- a sink: what was written, where it tells it, and its count of faults
-pub record Stream : Type 0 where
-  pub written : Option (List ℕ)
-  pub faults : ℕ
+-- What a command comes to over a shelf, which is seen before and after.
+pub data ComesTo (command : Command) (before after : Files) : Outcome → Type 0 where
+  -- all its files were read, each once and in order: what their contents come to
+  found : (contents : List (List ℕ)) {outcome : Outcome} → MayHold before.holds (files_of command) contents
+      → IsOutcome command contents outcome → WasAskedFor before.asked after.asked (files_of command)
+      → after.faults ≡ before.faults → ComesTo command before after outcome
+  -- the shelf failed at one of them, and was asked for none behind it
+  unread : (earlier later : List (List ℕ)) (name : List ℕ) → files_of command ≡ earlier ++ name ∷ later
+      → WasAskedFor before.asked after.asked (earlier ++ name ∷ []) → after.faults ≡ one_more before.faults
+      → ComesTo command before after (Unread name)
 
--- the text was written whole, and nothing failed
-abbrev pub WritesWhole : Stream → Stream → List ℕ → Type 0
-WritesWhole old new text = (new.written ≡ appended old.written text) × (new.faults ≡ old.faults)
+-- The answer to words over a shelf.
+pub data IsAnswer (words : List (List ℕ)) (before after : Files) : Rendering → Type 0 where
+  usage : MeanNothing words → after.faults ≡ before.faults → IsAnswer words before after usage_rendering
+  outcome : (command : Command) {outcome : Outcome} → Means words command → ComesTo command before after outcome
+      → IsAnswer words before after (rendering command outcome)
 
--- a prefix of the text was written, and then the sink failed
-abbrev pub WritesPrefix : Stream → Stream → List ℕ → Type 0
-WritesPrefix old new text = WrotePrefix old.written new.written text × HasCause old.faults new.faults
-
--- the text was put on the sink, whole or, where the sink failed, a prefix of it
-abbrev pub Puts : Stream → Stream → List ℕ → Type 0
-Puts old new text = WritesWhole old new text ⊎ WritesPrefix old new text
-
--- nothing was done to the sink
-abbrev pub IsUntouched : Stream → Stream → Type 0
-IsUntouched old new = (new.written ≡ old.written) × (new.faults ≡ old.faults)
-
--- The status with which an answer is delivered to standard output and standard error.
-pub data IsDelivered (answer : Answer) (old_out new_out old_err new_err : Stream) : Status → Type 0 where
-  -- whole
-  whole : WritesWhole old_out new_out answer.out → Puts old_err new_err answer.err → IsDelivered answer old_out new_out old_err new_err answer.status
-  -- standard output failed
-  failed : WritesPrefix old_out new_out answer.out → Puts old_err new_err write_fault_text → IsDelivered answer old_out new_out old_err new_err WriteFault
-
--- What a run answers: it delivers the answer to its words, or memory ran out before that.
-pub data Runs (words : List (List ℕ)) (holds : List ℕ → Option (List ℕ)) (old_faults new_faults : ℕ) (old_out new_out old_err new_err : Stream) : Status → Type 0 where
-  delivered : {answer : Answer} {status : Status} → IsAnswer words holds old_faults new_faults answer → IsDelivered answer old_out new_out old_err new_err status
-      → Runs words holds old_faults new_faults old_out new_out old_err new_err status
-  no_memory : IsUntouched old_out new_out → Puts old_err new_err no_memory_text → Runs words holds old_faults new_faults old_out new_out old_err new_err NoMemory
+-- What a run comes to: it delivers the answer to its words, or memory ran out. What was written by then is a front of
+-- the answer's text.
+pub data Runs (words : List (List ℕ)) (before after : Outside) : Status → Type 0 where
+  delivered : (answer : Rendering) {status : Status} → IsAnswer words before.files after.files answer
+      → IsDelivered answer before after status → Runs words before after status
+  no_memory :
+      ((answer : Rendering) → IsAnswer words before.files after.files answer
+      → WritesFront before.out after.out answer.out)
+      → Puts before.err after.err no_memory_text → Runs words before after NoMemory
 
 -- memory ran out, or P holds
 abbrev pub UnlessNoMemory : Status → Type 0 → Type 0
 UnlessNoMemory status P = (status ≡ NoMemory) ⊎ P
 
--- no fault was counted where one could have been
-abbrev pub IsQuiet : ℕ → ℕ → Type 0
-IsQuiet old new = (old < last_fault) × (new ≡ old)
+-- where the shelf tells the contents of the command's files, and neither it nor standard output fails, what the
+-- contents come to is delivered, and nothing else is; want of memory aside
+abbrev pub DeliversWhatIsTold : List (List ℕ) → Outside → Outside → Status → Type 0
+DeliversWhatIsTold words before after status =
+    (command : Command) (contents : List (List ℕ)) (outcome : Outcome) → Means words command
+    → Holds before.files.holds (files_of command) contents → IsOutcome command contents outcome
+    → IsUndisturbed before after → UnlessNoMemory status (IsDelivered (rendering command outcome) before after status)
 
--- the status comes exactly where P holds of the content of the file that the words ask to check, if the shelf tells it
--- and neither the shelf nor standard output failed; want of memory aside
-abbrev pub ComesExactlyWhere : Status → Status → List (List ℕ) → (List ℕ → Option (List ℕ)) → Type 0 → (List ℕ → Type 0) → Type 0
-ComesExactlyWhere status wanted words holds quiet P =
-    (name content : List ℕ) → IsCheck words name → holds name ≡ Some content → quiet → UnlessNoMemory status ((status ≡ wanted) ↔ P content)
-
--- the file is within the limit and of the form, and its function returns what it is declared to return
-abbrev pub IsAcceptedFile : List ℕ → Type 0
-IsAcceptedFile content = (length content ≤ file_limit) × (form : OneLiteral) × IsOneLiteralFile content form × (form.returned ≡ form.declared)
-
--- the file is within the limit and of the form, and its function returns another value than it is declared to return
-abbrev pub IsRefusedFile : List ℕ → Type 0
-IsRefusedFile content = (length content ≤ file_limit) × (form : OneLiteral) × IsOneLiteralFile content form × (form.returned ≢ form.declared)
-
--- the file is within the limit and has a lexical fault, or it has none, not too many tokens, and another form
-abbrev pub IsFaultyFile : List ℕ → Type 0
-IsFaultyFile content = (length content ≤ file_limit) × (fault : LexFault) × IsFaultOf content fault
-
-abbrev pub IsNotYetFile : List ℕ → Type 0
-IsNotYetFile content =
-    (length content ≤ file_limit) × (lists : TokenLists) × AreTokensOf content lists × (length lists.tokens ≤ token_limit) × IsNoForm lists.tokens
-
-abbrev pub IsFileRefusedFile : List ℕ → Type 0
-IsFileRefusedFile content = IsFaultyFile content ⊎ IsNotYetFile content
-
--- the file is longer than the limit, or it is within it and has too many tokens
-abbrev pub IsLimitFile : List ℕ → Type 0
-IsLimitFile content =
-    (file_limit < length content) ⊎ ((length content ≤ file_limit) × (lists : TokenLists) × AreTokensOf content lists × (token_limit < length lists.tokens))
-
--- Every run of the file's program is sound: whatever number of threads call its function, in whichever order they take
--- their steps and after however many, no configuration is undefined, and each finished thread has returned the declared
--- value as an `int`.
-pub record IsSoundFile (content : List ℕ) : Type 0 where
-  pub name : List ℕ
-  pub form : OneLiteral
-  pub program : Program
-  pub is : IsProgramOfFile content name form program
-  pub sound : (count : ℕ) (configs : List Config) → Run program (starting count name) configs
-      → AreSound program (enc Int (pos form.declared)) (starting count name) configs
+-- the shelf is asked for the files of the command, each once and in order, up to one that it fails at or until memory
+-- runs out; and for none where the words mean no command
+pub record AsksForItsFiles (words : List (List ℕ)) (old new : Option (List (List ℕ))) : Type 0 where
+  pub names : (command : Command) → Means words command
+      → (asked : List (List ℕ)) × (rest : List (List ℕ)) × (files_of command ≡ asked ++ rest)
+      × WasAskedFor old new asked
+  pub nothing : MeanNothing words → WasAskedFor old new []

@@ -1,7 +1,8 @@
 -- How a command ends.
 use Rattle.std.specs.Prelude.{ℕ}
 use Rattle.refinedc_cli.specs.declared.status.Status.{Status}
-use Rattle.refinedc_cli.specs.declared.status.Status.TheVariants.{Accepted, Refused, FileRefused, Usage, ReadFault, WriteFault, Limit, NoMemory}
+use Rattle.refinedc_cli.specs.declared.status.Status.TheVariants.{Accepted, Refused, FileRefused, Usage, ReadFault}
+use Rattle.refinedc_cli.specs.declared.status.Status.TheVariants.{WriteFault, Limit, NoMemory}
 
 -- the exit status that goes with an answer
 abbrev pub code_of : Status → ℕ

@@ -1,34 +1,68 @@
--- What `check` writes.
-use Rattle.std.specs.Prelude.{ℕ, List, [], ◌∷◌, ◌++◌, codes, Some, None}
+-- What is written to the two streams (this project's own).
+use Rattle.std.specs.Prelude.{ℕ, List, [], ◌∷◌, ◌++◌, map, codes, Option, Some, None}
 use Rattle.std.specs.Fmt.{decimal}
-use Rattle.std.specs.Str.{IsUtf8}
-use Rattle.c_lexer.specs.declared.fault.LexFault.{LexFault}
-use Rattle.c_lexer.specs.declared.fault.LexFaultKind.{LexFaultKind}
-use Rattle.c_lexer.specs.declared.fault.LexFaultKind.TheVariants.{BadByte, OpenComment, OpenString, BadNumber, Directive}
+use Rattle.rc_text.specs.declared.place.Place.{Place}
 use Rattle.rc_text.specs.Lines.{text_of}
-use Rattle.refinedc_cli.specs.declared.one_literal.OneLiteral.{OneLiteral}
+use Rattle.c_lexer.specs.declared.fault.LexFaultKind.TheVariants.{BadByte, OpenComment, OpenString, BadNumber}
+use Rattle.c_lexer.specs.declared.fault.LexFaultKind.TheVariants.{Directive}
+use Rattle.refinedc_cli.specs.declared.limit.Limit.{Limit}
+use Rattle.refinedc_cli.specs.declared.listing.Certificate.{Certificate}
+use Rattle.refinedc_cli.specs.declared.listing.Certificate.TheVariants.{Trivial}
+use Rattle.refinedc_cli.specs.declared.listing.RuleLine.{RuleLine}
+use Rattle.refinedc_cli.specs.declared.outcome.FileFault.{FileFault}
+use Rattle.refinedc_cli.specs.declared.outcome.FileFault.TheVariants.{Lexical, NotYet}
+use Rattle.refinedc_cli.specs.declared.outcome.OpenGoal.{OpenGoal}
+use Rattle.refinedc_cli.specs.declared.outcome.OpenGoal.TheVariants.{Unsolved}
+use Rattle.refinedc_cli.specs.Limit.{limit_number, limit_name}
 
--- the derivation of an accepted file
-abbrev pub listing_text : List ℕ
-listing_text =
-    text_of (codes "refinedc 1" ∷ codes "7" ∷ codes "8" ∷ codes "17" ∷ codes "23" ∷ codes "22" ∷ codes "61" ∷ codes "2 t"
-    ∷ codes "1" ∷ codes "1" ∷ codes "accepted" ∷ [])
+-- a certificate behind the number of a rule
+abbrev pub certificate_text : Option Certificate → List ℕ
+certificate_text None = []
+certificate_text (Some Trivial) = codes " t"
 
--- the equation of a refused file, at its `return`
-abbrev pub refusal_text : List ℕ → OneLiteral → List ℕ
-refusal_text name form =
-    codes "refused " ++ name ++ codes ":" ++ decimal form.places.return_.line ++ codes ":" ++ decimal form.places.return_.column
-    ++ codes ": unsolved " ++ decimal form.returned ++ codes " = " ++ decimal form.declared ++ codes "\n"
+-- a line of a listing
+abbrev pub line_text : RuleLine → List ℕ
+line_text line = decimal line.rule ++ certificate_text line.certificate
 
--- a file of another form; its place is that of the file's first byte
-abbrev pub not_yet_text : List ℕ → List ℕ
-not_yet_text name = name ++ codes ":1:1: NotYet\n"
+-- the lines of an accepted file, between the format's name and `accepted`
+abbrev pub listing_text : List RuleLine → List ℕ
+listing_text lines = text_of (codes "refinedc 1" ∷ map line_text lines ++ codes "accepted" ∷ [])
+
+-- a place in a file, before what is said of it
+abbrev pub place_text : List ℕ → Place → List ℕ
+place_text name place = name ++ codes ":" ++ decimal place.line ++ codes ":" ++ decimal place.column ++ codes ": "
+
+-- a goal that stayed open
+abbrev pub goal_text : OpenGoal → List ℕ
+goal_text (Unsolved left right) = codes "unsolved " ++ decimal left ++ codes " = " ++ decimal right
+
+-- a refused file
+abbrev pub refused_text : List ℕ → Place → OpenGoal → List ℕ
+refused_text name place goal = codes "refused " ++ place_text name place ++ goal_text goal ++ codes "\n"
+
+-- the kind of a fault, and the name that it has
+abbrev pub fault_kind_text : FileFault → List ℕ
+fault_kind_text (Lexical BadByte) = codes "BadByte"
+fault_kind_text (Lexical OpenComment) = codes "OpenComment"
+fault_kind_text (Lexical OpenString) = codes "OpenString"
+fault_kind_text (Lexical BadNumber) = codes "BadNumber"
+fault_kind_text (Lexical (Directive None)) = codes "Directive"
+fault_kind_text (Lexical (Directive (Some name))) = codes "Directive " ++ name
+fault_kind_text NotYet = codes "NotYet"
+
+-- a file with a fault
+abbrev pub fault_text : List ℕ → Place → FileFault → List ℕ
+fault_text name place fault = place_text name place ++ fault_kind_text fault ++ codes "\n"
 
 -- a file that can't be opened or read
 abbrev pub read_fault_text : List ℕ → List ℕ
 read_fault_text name = codes "read fault " ++ name ++ codes "\n"
 
--- words that are no command
+-- a limit that was passed
+abbrev pub limit_text : Limit → List ℕ
+limit_text limit = codes "limit " ++ limit_name limit ++ codes " " ++ decimal (limit_number limit) ++ codes "\n"
+
+-- words that mean no command
 abbrev pub usage_text : List ℕ
 usage_text = codes "usage: refinedc COMMAND FILE\n"
 
@@ -36,37 +70,6 @@ usage_text = codes "usage: refinedc COMMAND FILE\n"
 abbrev pub write_fault_text : List ℕ
 write_fault_text = codes "write fault\n"
 
--- the file has more bytes than the limit
-abbrev pub file_limit_text : List ℕ
-file_limit_text = codes "limit file bytes 1048576\n"
-
 -- memory ran out
 abbrev pub no_memory_text : List ℕ
 no_memory_text = codes "no memory\n"
-
--- the file has more tokens than the limit
-abbrev pub token_limit_text : List ℕ
-token_limit_text = codes "limit tokens 200000\n"
-
--- the kind of a lexical fault, and the name that it has
-abbrev pub fault_kind_text : LexFaultKind → List ℕ
-fault_kind_text BadByte = codes "BadByte"
-fault_kind_text OpenComment = codes "OpenComment"
-fault_kind_text OpenString = codes "OpenString"
-fault_kind_text BadNumber = codes "BadNumber"
-fault_kind_text (Directive None) = codes "Directive"
-fault_kind_text (Directive (Some name)) = codes "Directive " ++ name
-
--- a lexical fault, at its place
-abbrev pub fault_text : List ℕ → LexFault → List ℕ
-fault_text name fault =
-    name ++ codes ":" ++ decimal fault.place.line ++ codes ":" ++ decimal fault.place.column ++ codes ": " ++ fault_kind_text fault.kind ++ codes "\n"
-
--- the name that a fault has, if it has one, is text
-abbrev pub NameIsText : LexFaultKind → Type 0
-NameIsText BadByte = Unit {0}
-NameIsText OpenComment = Unit {0}
-NameIsText OpenString = Unit {0}
-NameIsText BadNumber = Unit {0}
-NameIsText (Directive None) = Unit {0}
-NameIsText (Directive (Some name)) = IsUtf8 name

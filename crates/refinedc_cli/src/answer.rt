@@ -1,114 +1,73 @@
-ghost use Rattle.std.specs.Prelude.{◌≡◌, IfOk};
-ghost use Rattle.refinedc_cli.specs.Answer.{usage_answer, read_fault_answer, limit_answer, not_yet_answer, accepted_answer, refused_answer, fault_answer, token_limit_answer};
-ghost use Rattle.refinedc_cli.specs.Texts.{NameIsText};
+ghost use Rattle.std.specs.Prelude.{◌≡◌, ◌∷◌, [], ◌≤◌, IfOk};
+ghost use Rattle.refinedc_cli.specs.Outside.{files_seen, WasAskedFor};
+ghost use Rattle.refinedc_cli.specs.Command.{files_of};
+ghost use Rattle.refinedc_cli.specs.Run.{ComesTo, IsAnswer, AsksForItsFiles};
 
-use crate::one_literal::OneLiteral;
-use crate::status::Status;
-use crate::texts::{
-    FILE_LIMIT_TEXT, TOKEN_LIMIT_TEXT, USAGE_TEXT, fault_text, listing_text, not_yet_text,
-    read_fault_text, refusal_text,
-};
-use c_lexer::LexFault;
-use rc_text::{NoMemory, Text};
+use crate::check::check_content;
+use crate::command::{Command, command_of};
+use crate::limit::Limit;
+use crate::outcome::Outcome;
+use crate::rendering::{Rendering, render, render_usage};
+use rc_text::{NoMemory, ReadRefusal, Shelf, Text, read_whole};
 use std::alloc::Global;
 
-/// A status, and the texts that go with it.
-#[derive(Debug, Drop)]
-pub struct Answer {
-    pub status: Status,
-    /// What is written to standard output.
-    pub out: Text,
-    /// What is put on standard error.
-    pub err: Text,
+/// The answer to words, over the files of a shelf.
+pub fn answer<H: Shelf>(alloc: Global, words: &[Text], shelf: &mut H) -> Result<Rendering, NoMemory>
+    ensures answer { IfOk result (IsAnswer words.now
+        (files_seen (H.holds shelf.old) (H.asked shelf.old) (H.faults shelf.old))
+        (files_seen (H.holds shelf.new) (H.asked shelf.new) (H.faults shelf.new))) }
+    ensures asked { AsksForItsFiles words.now (H.asked shelf.old) (H.asked shelf.new) }
+    ensures holds { H.holds shelf.new ≡ H.holds shelf.old }
+    ensures rising { H.faults shelf.old ≤ H.faults shelf.new }
+{
+    match command_of(alloc, words)? {
+        None => render_usage(alloc),
+        Some(command) => {
+            let outcome = outcome_of(alloc, &command, shelf)?;
+            render(alloc, &command, &outcome)
+        }
+    }
 }
 
-impl Answer {
-    /// To words that are no command.
-    pub fn usage(alloc: Global) -> Result<Answer, NoMemory>
-        ensures { IfOk result (λ answer. answer ≡ usage_answer) }
-    {
-        Ok(Answer {
-            status: Status::Usage,
-            out: Text::new(alloc),
-            err: Text::from_str(alloc, USAGE_TEXT)?,
-        })
+/// What a command comes to.
+fn outcome_of<H: Shelf>(
+    alloc: Global,
+    command: &Command,
+    shelf: &mut H,
+) -> Result<Outcome, NoMemory>
+    ensures outcome { IfOk result (ComesTo command.now
+        (files_seen (H.holds shelf.old) (H.asked shelf.old) (H.faults shelf.old))
+        (files_seen (H.holds shelf.new) (H.asked shelf.new) (H.faults shelf.new))) }
+    ensures asked { WasAskedFor (H.asked shelf.old) (H.asked shelf.new) (files_of command.now) }
+    ensures holds { H.holds shelf.new ≡ H.holds shelf.old }
+    ensures rising { H.faults shelf.old ≤ H.faults shelf.new }
+{
+    match command {
+        Command::Check { file } => check_file(alloc, file, shelf),
     }
+}
 
-    /// On a file that can't be opened or read.
-    pub fn read_fault(alloc: Global, name: &str) -> Result<Answer, NoMemory>
-        ensures { IfOk result (λ answer. answer ≡ read_fault_answer name.now) }
-    {
-        Ok(Answer {
-            status: Status::ReadFault,
-            out: Text::new(alloc),
-            err: read_fault_text(alloc, name)?,
-        })
+/// What `check` comes to on the file of a name.
+fn check_file<H: Shelf>(alloc: Global, file: &Text, shelf: &mut H) -> Result<Outcome, NoMemory>
+    ensures outcome { IfOk result (ComesTo (Command.Check file.now)
+        (files_seen (H.holds shelf.old) (H.asked shelf.old) (H.faults shelf.old))
+        (files_seen (H.holds shelf.new) (H.asked shelf.new) (H.faults shelf.new))) }
+    ensures asked { WasAskedFor (H.asked shelf.old) (H.asked shelf.new) (file.now ∷ []) }
+    ensures holds { H.holds shelf.new ≡ H.holds shelf.old }
+    ensures rising { H.faults shelf.old ≤ H.faults shelf.new }
+{
+    match read_whole(alloc, shelf, file.as_str(), Limit::FileBytes.number()) {
+        Ok(content) => check_content(alloc, &content),
+        Err(ReadRefusal::TooLong) => Ok(Outcome::Passed(Limit::FileBytes)),
+        Err(ReadRefusal::CannotOpen) => unread(alloc, file),
+        Err(ReadRefusal::ReadFault) => unread(alloc, file),
+        Err(ReadRefusal::NoMemory) => Err(NoMemory),
     }
+}
 
-    /// On a file that is too long.
-    pub fn limit(alloc: Global) -> Result<Answer, NoMemory>
-        ensures { IfOk result (λ answer. answer ≡ limit_answer) }
-    {
-        Ok(Answer {
-            status: Status::Limit,
-            out: Text::new(alloc),
-            err: Text::from_str(alloc, FILE_LIMIT_TEXT)?,
-        })
-    }
-
-    /// On a file of another form.
-    pub fn not_yet(alloc: Global, name: &str) -> Result<Answer, NoMemory>
-        ensures { IfOk result (λ answer. answer ≡ not_yet_answer name.now) }
-    {
-        Ok(Answer {
-            status: Status::FileRefused,
-            out: Text::new(alloc),
-            err: not_yet_text(alloc, name)?,
-        })
-    }
-
-    /// On a function that returns what it is declared to return.
-    pub fn accepted(alloc: Global) -> Result<Answer, NoMemory>
-        ensures { IfOk result (λ answer. answer ≡ accepted_answer) }
-    {
-        Ok(Answer {
-            status: Status::Accepted,
-            out: listing_text(alloc)?,
-            err: Text::new(alloc),
-        })
-    }
-
-    /// On a function that returns another value.
-    pub fn refused(alloc: Global, name: &str, form: &OneLiteral) -> Result<Answer, NoMemory>
-        ensures { IfOk result (λ answer. answer ≡ refused_answer name.now form.now) }
-    {
-        Ok(Answer {
-            status: Status::Refused,
-            out: refusal_text(alloc, name, form)?,
-            err: Text::new(alloc),
-        })
-    }
-
-    /// On a file with a lexical fault.
-    pub fn fault(alloc: Global, name: &str, fault: &LexFault) -> Result<Answer, NoMemory>
-        requires { NameIsText fault.now.kind }
-        ensures { IfOk result (λ answer. answer ≡ fault_answer name.now fault.now) }
-    {
-        Ok(Answer {
-            status: Status::FileRefused,
-            out: Text::new(alloc),
-            err: fault_text(alloc, name, fault)?,
-        })
-    }
-
-    /// On a file with too many tokens.
-    pub fn token_limit(alloc: Global) -> Result<Answer, NoMemory>
-        ensures { IfOk result (λ answer. answer ≡ token_limit_answer) }
-    {
-        Ok(Answer {
-            status: Status::Limit,
-            out: Text::new(alloc),
-            err: Text::from_str(alloc, TOKEN_LIMIT_TEXT)?,
-        })
-    }
+/// The outcome of a file that can't be opened or read.
+fn unread(alloc: Global, file: &Text) -> Result<Outcome, NoMemory>
+    ensures { IfOk result (λ outcome. outcome ≡ Outcome.Unread file.now) }
+{
+    Ok(Outcome::Unread(Text::from_str(alloc, file.as_str())?))
 }

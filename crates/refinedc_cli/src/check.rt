@@ -1,63 +1,73 @@
-ghost use Rattle.std.specs.Prelude.{◌≡◌, ◌==◌, if◌then◌else◌, IfOk};
-ghost use Rattle.refinedc_cli.specs.Answer.{accepted_answer, refused_answer, answer_on, IsFileAnswer, IsAnswer};
-ghost use Rattle.refinedc_cli.specs.Reading.{FaultIsText};
+ghost use Rattle.std.specs.Prelude.{◌≤◌, length, IfOk};
+ghost use Rattle.refinedc_cli.specs.Limit.{limit_number};
+ghost use Rattle.refinedc_cli.specs.OneLiteral.{IsReadAs};
+ghost use Rattle.refinedc_cli.specs.Outcome.{IsCheckOutcome, IsVerdict, IsJudgement};
 
-use crate::answer::Answer;
-use crate::file::{Reading, read_file};
-use crate::one_literal::OneLiteral;
-use crate::words::checked_name;
-use rc_text::{NoMemory, ReadRefusal, Shelf, Text, read_whole};
+use crate::limit::Limit;
+use crate::listing::literal_lines;
+use crate::one_literal::{NAME, OneLiteral, form_of};
+use crate::outcome::{FileFault, OpenGoal, Outcome};
+use c_lexer::{LexRefusal, Token, lex};
+use caesium_ir::Program;
+use rc_text::{Bytes, NoMemory, Place};
+use sqlite_items::Items;
 use std::alloc::Global;
 
-/// How many bytes a file has at most.
-const FILE_LIMIT: u32 = 1048576;
-
-/// The answer to words.
-pub fn answer_to<H: Shelf>(alloc: Global, words: &[Text], shelf: &mut H) -> Result<Answer, NoMemory>
-    ensures { IfOk result (λ answer. IsAnswer words.now (H.holds shelf.old) (H.faults shelf.old) (H.faults shelf.new) answer) }
+/// What `check` finds in a content that is no longer than a file may be.
+pub fn check_content(alloc: Global, content: &Bytes) -> Result<Outcome, NoMemory>
+    requires { length content.now ≤ limit_number Limit.FileBytes }
+    ensures { IfOk result (IsCheckOutcome content.now) }
 {
-    match checked_name(words) {
-        None => Answer::usage(alloc),
-        Some(name) => answer_to_file(alloc, name.as_str(), shelf),
-    }
-}
-
-/// The answer on the file of a name.
-fn answer_to_file<H: Shelf>(alloc: Global, name: &str, shelf: &mut H) -> Result<Answer, NoMemory>
-    ensures { IfOk result (λ answer. IsFileAnswer (H.holds shelf.old name.now) name.now (H.faults shelf.old) (H.faults shelf.new) answer) }
-{
-    match read_whole(alloc, shelf, name, FILE_LIMIT) {
-        Ok(bytes) => {
-            let reading = read_file(alloc, &bytes)?;
-            answer_on(alloc, name, &reading)
+    match lex(alloc, content) {
+        Ok(tokens) => check_tokens(alloc, tokens.as_slice()),
+        Err(LexRefusal::Fault(fault)) => {
+            Ok(Outcome::Faulty(fault.place, FileFault::Lexical(fault.kind)))
         }
-        Err(ReadRefusal::TooLong) => Answer::limit(alloc),
-        Err(ReadRefusal::CannotOpen) => Answer::read_fault(alloc, name),
-        Err(ReadRefusal::ReadFault) => Answer::read_fault(alloc, name),
-        Err(ReadRefusal::NoMemory) => Err(NoMemory),
+        Err(LexRefusal::TokenLimit) => Ok(Outcome::Passed(Limit::Tokens)),
+        Err(LexRefusal::NoMemory) => Err(NoMemory),
     }
 }
 
-/// The answer on a file that was read so.
-fn answer_on(alloc: Global, name: &str, reading: &Reading) -> Result<Answer, NoMemory>
-    requires { FaultIsText reading.now }
-    ensures { IfOk result (λ answer. answer ≡ answer_on name.now reading.now) }
+/// What `check` finds in the tokens of a file.
+fn check_tokens(alloc: Global, tokens: &[Token]) -> Result<Outcome, NoMemory>
+    ensures { IfOk result (IsVerdict tokens.now) }
 {
-    match reading {
-        Reading::Faulty(fault) => Answer::fault(alloc, name, fault),
-        Reading::TooManyTokens => Answer::token_limit(alloc),
-        Reading::Other => Answer::not_yet(alloc, name),
-        Reading::Form(checked) => answer_on_form(alloc, name, &checked.form),
+    match read_tokens(alloc, tokens)? {
+        None => Ok(Outcome::Faulty(Place::START, FileFault::NotYet)),
+        Some(read) => judged(alloc, &read.form),
     }
 }
 
-/// The answer on a file of the form.
-fn answer_on_form(alloc: Global, name: &str, form: &OneLiteral) -> Result<Answer, NoMemory>
-    ensures { IfOk result (λ answer. answer ≡ (if form.now.returned == form.now.declared then accepted_answer else refused_answer name.now form.now)) }
+/// A file of the form: its literals, and its Caesium program.
+#[derive(Debug, Drop)]
+pub struct ReadFile {
+    pub form: OneLiteral,
+    pub program: Program,
+}
+
+/// Reads the tokens of the form, and translates them.
+fn read_tokens(alloc: Global, tokens: &[Token]) -> Result<Option<ReadFile>, NoMemory>
+    ensures { IfOk result (IsReadAs tokens.now) }
+{
+    let Some(form) = form_of(tokens) else {
+        return Ok(None);
+    };
+    let name = tokens[NAME].text.as_slice();
+    let program = caesium_ir::one_literal(alloc, name, form.returned, form.places)?;
+    Ok(Some(ReadFile { form, program }))
+}
+
+/// Whether the literal is the declared value.
+fn judged(alloc: Global, form: &OneLiteral) -> Result<Outcome, NoMemory>
+    ensures { IfOk result (IsJudgement form.now) }
 {
     if form.returned == form.declared {
-        Answer::accepted(alloc)
+        Ok(Outcome::Accepted(Items::from_slice(alloc, &literal_lines())?))
     } else {
-        Answer::refused(alloc, name, form)
+        let goal = OpenGoal::Unsolved {
+            left: form.returned,
+            right: form.declared,
+        };
+        Ok(Outcome::Refused(form.places.return_, goal))
     }
 }

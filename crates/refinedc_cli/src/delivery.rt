@@ -1,31 +1,35 @@
 ghost use Rattle.std.specs.Prelude.{◌≡◌};
-ghost use Rattle.refinedc_cli.specs.Run.{Puts, IsDelivered};
+ghost use Rattle.refinedc_cli.specs.Delivery.{Puts, IsDelivered};
+ghost use Rattle.refinedc_cli.specs.Outside.{Files, stream_seen, outside_seen};
 
-use crate::answer::Answer;
+use crate::rendering::Rendering;
 use crate::status::Status;
 use crate::texts::WRITE_FAULT_TEXT;
 use rc_text::{Sink, Wrote, write_whole};
 
 /// Puts a text on a sink. Where the sink fails, a prefix of it stands there, and nothing else comes of it.
-pub fn put<E: Sink>(sink: &mut E, text: &str)
-    ensures { Puts (record { written = E.written sink.old; faults = E.faults sink.old }) (record { written = E.written sink.new; faults = E.faults sink.new }) text.now }
+pub fn put<E: Sink>(sink: &mut E, text: &[u8])
+    ensures { Puts (stream_seen (E.written sink.old) (E.faults sink.old))
+        (stream_seen (E.written sink.new) (E.faults sink.new)) text.now }
 {
-    let _ = write_whole(sink, text.as_bytes());
+    let _ = write_whole(sink, text);
 }
 
-/// Writes an answer. Where standard output fails, the status is `WriteFault`, and standard error says so.
-pub fn deliver<O: Sink, E: Sink>(answer: &Answer, out: &mut O, err: &mut E) -> Status
-    ensures { IsDelivered answer.now
-        (record { written = O.written out.old; faults = O.faults out.old }) (record { written = O.written out.new; faults = O.faults out.new })
-        (record { written = E.written err.old; faults = E.faults err.old }) (record { written = E.written err.new; faults = E.faults err.new }) result }
+/// Writes a rendering. Where standard output fails, the status is `WriteFault`, and standard error says so.
+pub fn deliver<O: Sink, E: Sink>(rendering: &Rendering, out: &mut O, err: &mut E) -> Status
+    ensures { (before after : Files) → IsDelivered rendering.now
+        (outside_seen before (stream_seen (O.written out.old) (O.faults out.old))
+        (stream_seen (E.written err.old) (E.faults err.old)))
+        (outside_seen after (stream_seen (O.written out.new) (O.faults out.new))
+        (stream_seen (E.written err.new) (E.faults err.new))) result }
 {
-    match write_whole(out, answer.out.as_bytes()) {
+    match write_whole(out, rendering.out.as_slice()) {
         Wrote::Whole => {
-            put(err, answer.err.as_str());
-            answer.status
+            put(err, rendering.err.as_slice());
+            rendering.status
         }
         Wrote::Fault => {
-            put(err, WRITE_FAULT_TEXT);
+            put(err, WRITE_FAULT_TEXT.as_bytes());
             Status::WriteFault
         }
     }

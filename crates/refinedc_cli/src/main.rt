@@ -7,19 +7,21 @@ use status::Status;
 use std::process::ExitCode;
 use std::rt::Env;
 use std::{env, io};
-use top_call::run;
 
 mod answer;
 mod check;
+mod command;
 mod delivery;
-mod file;
+mod limit;
+mod listing;
 mod one_literal;
+mod outcome;
+mod rendering;
+mod run;
 mod status;
 #[cfg(test)]
 mod tests;
 mod texts;
-mod top_call;
-mod words;
 
 /// The words behind the program's name.
 fn words_given(rt: &(impl Env + AllocGlobal)) -> io::Result<Vec<Text>> {
@@ -36,15 +38,15 @@ fn main(rt: HostRuntime) -> ExitCode {
         Ok(words) => {
             let mut shelf = OsShelf::new(&rt);
             let mut out = OsSink::new(rt.stdout());
-            run(rt.alloc(), words.as_slice(), &mut shelf, &mut out, &mut err)
+            run::run(rt.alloc(), words.as_slice(), &mut shelf, &mut out, &mut err)
         }
         Err(error) if error.kind() == io::ErrorKind::OutOfMemory => {
-            delivery::put(&mut err, texts::NO_MEMORY_TEXT);
+            delivery::put(&mut err, texts::NO_MEMORY_TEXT.as_bytes());
             Status::NoMemory
         }
         // A word that is no text is in no form of a command.
         Err(_) => {
-            delivery::put(&mut err, texts::USAGE_TEXT);
+            delivery::put(&mut err, texts::USAGE_TEXT.as_bytes());
             Status::Usage
         }
     };

@@ -1,4 +1,5 @@
-ghost use Rattle.std.specs.Prelude.{◌≡◌, ◌≢◌, ℕ, ◌^◌, ◌<◌, ◌↔◌, List, map, IsTrue, MatchOption, Some, slice_get, length};
+ghost use Rattle.std.specs.Prelude.{◌≡◌, ◌≢◌, ℕ, ◌^◌, ◌<◌, ◌↔◌, List, map, IsTrue, MatchOption, Some, slice_get};
+ghost use Rattle.std.specs.Prelude.{length};
 ghost use Rattle.c_lexer.specs.declared.token.Token.{Token};
 ghost use Rattle.c_lexer.specs.declared.token.TokenKind.TheVariants.{Integer};
 ghost use Rattle.refinedc_cli.specs.OneLiteral.{decimal_constant, form_kinds, declaration, IsSpelledAt, IsOneLiteral};
@@ -39,8 +40,9 @@ const RETURNED: usize = 17;
 const LENGTH: usize = 20;
 
 /// Reads the literals off the tokens of the form. None where the tokens are others.
-pub fn one_literal(tokens: &[Token]) -> Option<OneLiteral>
-    ensures { MatchOption result ((form : OneLiteral) → IsOneLiteral tokens.now form → ⊥) (λ form. IsOneLiteral tokens.now form) }
+pub fn form_of(tokens: &[Token]) -> Option<OneLiteral>
+    ensures { MatchOption result ((form : OneLiteral) → IsOneLiteral tokens.now form → ⊥)
+        (λ form. IsOneLiteral tokens.now form) }
 {
     let returned = returned_constant(tokens)?;
     if !have_kinds(tokens, &form_kinds(returned)) {
@@ -68,8 +70,10 @@ const MAXIMUM: u128 = 2147483647;
 /// The decimal constant that stands behind `return`, if an `int` holds it.
 fn returned_constant(tokens: &[Token]) -> Option<u32>
     ensures { MatchOption result
-        ((token : Token) (value : ℕ) → slice_get tokens.now RETURNED ≡ Some token → token.kind ≡ Integer (decimal_constant value) → value < 2 ^ 31 → ⊥)
-        (λ value. (token : Token) × (slice_get tokens.now RETURNED ≡ Some token) × (token.kind ≡ Integer (decimal_constant value)) × (value < 2 ^ 31)) }
+        ((token : Token) (value : ℕ) → slice_get tokens.now RETURNED ≡ Some token
+        → token.kind ≡ Integer (decimal_constant value) → value < 2 ^ 31 → ⊥)
+        (λ value. (token : Token) × (slice_get tokens.now RETURNED ≡ Some token)
+        × (token.kind ≡ Integer (decimal_constant value)) × (value < 2 ^ 31)) }
 {
     match tokens.get(RETURNED)?.kind {
         TokenKind::Integer(constant) => in_int(constant),
@@ -79,7 +83,8 @@ fn returned_constant(tokens: &[Token]) -> Option<u32>
 
 /// The value of a decimal constant without a suffix, if an `int` holds it.
 fn in_int(constant: IntegerConstant) -> Option<u32>
-    ensures { MatchOption result ((value : ℕ) → constant ≡ decimal_constant value → value < 2 ^ 31 → ⊥) (λ value. (constant ≡ decimal_constant value) × (value < 2 ^ 31)) }
+    ensures { MatchOption result ((value : ℕ) → constant ≡ decimal_constant value → value < 2 ^ 31 → ⊥)
+        (λ value. (constant ≡ decimal_constant value) × (value < 2 ^ 31)) }
 {
     match constant {
         IntegerConstant {

@@ -1,8 +1,8 @@
 // Each row runs with ample memory, and the status that it wants is another than want of memory.
 
+use crate::run::run;
 use crate::status::Status;
-use crate::top_call::run;
-use rc_text::{Bytes, MemoryShelf, MemorySink, NoMemory, Text};
+use rc_text::{Bytes, LastCall, MemoryShelf, MemorySink, NoMemory, Text};
 use std::alloc::Global;
 use std::process::Abort;
 use std::test::Fail;
@@ -22,6 +22,8 @@ const NEVER: u64 = 1000000;
 #[derive(Drop)]
 struct Left {
     status: Status,
+    /// How many calls the shelf got.
+    calls: u64,
     out: MemorySink,
     err: MemorySink,
 }
@@ -48,13 +50,20 @@ fn left_by(
         failing: vec![in alloc; failing_read]?,
         calls: 0,
         faults: 0,
+        last: LastCall::Answered,
         current: None,
         at: 0,
     };
     let mut out = MemorySink::new(alloc, 1000, &[failing_write])?;
     let mut err = MemorySink::new(alloc, 1000, &[failing_error])?;
     let status = run(alloc, given.as_slice(), &mut shelf, &mut out, &mut err);
-    Ok(Left { status, out, err })
+    let calls = shelf.calls;
+    Ok(Left {
+        status,
+        calls,
+        out,
+        err,
+    })
 }
 
 /// What stands on the two sinks is that of the status, where nothing fails.
@@ -446,6 +455,8 @@ fn each_call_fails_in_turn(rt: HostRuntime) -> Result<(), Fail> {
             (Status::Accepted, LISTING, "")
         };
         assert!(rt; left.status == status, "read {call}");
+        // Nothing is called behind the first failure.
+        assert!(rt; left.calls == (call + 1).min(6), "read {call}");
         assert!(rt; left.out.bytes.as_slice() == out.as_bytes(), "read {call}");
         assert!(rt; left.err.bytes.as_slice() == err.as_bytes(), "read {call}");
     }
@@ -471,6 +482,8 @@ fn each_call_fails_in_turn(rt: HostRuntime) -> Result<(), Fail> {
     // A failing standard error changes no status.
     let left = left_by(alloc, &["check"], SEVEN.as_bytes(), NEVER, NEVER, 1)?;
     assert!(rt; left.status == Status::Usage);
+    // No file is asked for where the words are no command.
+    assert!(rt; left.calls == 0);
     assert!(rt; Some(left.err.bytes.as_slice()) == USAGE.as_bytes().get(..16));
     Ok(())
 }

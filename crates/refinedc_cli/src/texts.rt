@@ -1,122 +1,151 @@
-ghost use Rattle.std.specs.Prelude.{◌≡◌, ◌++◌, IfOk, map, codes};
-ghost use Rattle.std.specs.Str.{IsUtf8};
-ghost use Rattle.refinedc_cli.specs.Texts.{NameIsText, fault_text, fault_kind_text, listing_text, refusal_text, not_yet_text, read_fault_text};
+ghost use Rattle.std.specs.Prelude.{◌≡◌, ◌++◌, ◌∷◌, [], map, IfOk, codes};
+ghost use Rattle.refinedc_cli.specs.Texts.{line_text, listing_text, place_text, goal_text, refused_text};
+ghost use Rattle.refinedc_cli.specs.Texts.{fault_kind_text, fault_text, read_fault_text, limit_text};
 
-use crate::one_literal::OneLiteral;
-use c_lexer::{LexFault, LexFaultKind};
-use rc_text::{Lines, NoMemory, Text};
+use crate::limit::Limit;
+use crate::listing::{Certificate, RuleLine};
+use crate::outcome::{FileFault, OpenGoal};
+use c_lexer::LexFaultKind;
+use rc_text::{Bytes, NoMemory, Place, Text, joined_lines};
 use std::alloc::Global;
 
-/// What `check` prints for words that are no command.
+/// On standard error for words that mean no command.
 pub const USAGE_TEXT: &str = "usage: refinedc COMMAND FILE\n";
 
+/// On standard error where standard output failed.
 pub const WRITE_FAULT_TEXT: &str = "write fault\n";
 
-pub const FILE_LIMIT_TEXT: &str = "limit file bytes 1048576\n";
-
-pub const TOKEN_LIMIT_TEXT: &str = "limit tokens 200000\n";
-
+/// On standard error where memory ran out.
 pub const NO_MEMORY_TEXT: &str = "no memory\n";
 
-/// The derivation of a function that returns the literal that it is declared to return. Between the
-/// format's name and `accepted` stands a rule a line: the function beside the rest (7), its start (8),
-/// `goto` (17), the constant (23), `return` (22), the integer against the declared one (61), their
-/// equation, which is true as it stands (2), and twice nothing left to do (1).
-const DERIVATION: [&str; 11] = [
-    "refinedc 1",
-    "7",
-    "8",
-    "17",
-    "23",
-    "22",
-    "61",
-    "2 t",
-    "1",
-    "1",
-    "accepted",
-];
-
-/// What stands on standard output for an accepted file: its derivation.
-pub fn listing_text(alloc: Global) -> Result<Text, NoMemory>
-    ensures { IfOk result (λ text. text ≡ listing_text) }
+/// On standard output for an accepted file: its lines, between the format's name and `accepted`.
+pub fn listing_text(alloc: Global, lines: &[RuleLine]) -> Result<Bytes, NoMemory>
+    ensures { IfOk result (λ text. text ≡ listing_text lines.now) }
 {
-    lines(alloc, &DERIVATION)?.to_text(alloc)
+    let mut texts = Vec::new(alloc);
+    texts.push(Text::from_str(alloc, "refinedc 1")?)?;
+    push_lines(alloc, lines, &mut texts)?;
+    texts.push(Text::from_str(alloc, "accepted")?)?;
+    joined_lines(alloc, texts.as_slice())
 }
 
-/// A copy of lines.
-fn lines(alloc: Global, texts: &[&str]) -> Result<Lines, NoMemory>
-    ensures { IfOk result (λ lines. lines ≡ map (λ text. text.now) texts.now) }
+/// Puts the lines at the end of texts.
+fn push_lines(alloc: Global, lines: &[RuleLine], texts: &mut Vec<Text>) -> Result<(), NoMemory>
+    ensures { IfOk result (λ _. texts.new.items ≡ texts.old.items ++ map line_text lines.now) }
 {
-    let mut lines = Lines::new(alloc);
-    for text in texts {
-        lines.push(Text::from_str(alloc, text)?)?;
+    for line in lines {
+        texts.push(line_text(alloc, *line)?)?;
     }
-    Ok(lines)
+    Ok(())
 }
 
-/// What stands on standard output for a refused file: the place of `return`, and the equation that
-/// isn't true.
-pub fn refusal_text(alloc: Global, name: &str, form: &OneLiteral) -> Result<Text, NoMemory>
-    ensures { IfOk result (λ text. text ≡ refusal_text name.now form.now) }
+fn line_text(alloc: Global, line: RuleLine) -> Result<Text, NoMemory>
+    ensures { IfOk result (λ text. text ≡ line_text line) }
 {
-    let line = form.places.return_.line;
-    let column = form.places.return_.column;
-    let returned = form.returned;
-    let declared = form.declared;
-    let text = format!(in alloc;
-        "refused {name}:{line}:{column}: unsolved {returned} = {declared}\n"
-    )?;
+    let rule = line.rule;
+    let text = match line.certificate {
+        None => format!(in alloc; "{rule}")?,
+        Some(Certificate::Trivial) => format!(in alloc; "{rule} t")?,
+    };
     Ok(Text::from_string(text))
 }
 
-/// What stands on standard error for a file of another form.
-pub fn not_yet_text(alloc: Global, name: &str) -> Result<Text, NoMemory>
-    ensures { IfOk result (λ text. text ≡ not_yet_text name.now) }
+/// On standard output for a refused file: where a goal stayed open, and which.
+pub fn refused_text(
+    alloc: Global,
+    name: &str,
+    place: Place,
+    goal: OpenGoal,
+) -> Result<Bytes, NoMemory>
+    ensures { IfOk result (λ text. text ≡ refused_text name.now place goal) }
 {
-    Ok(Text::from_string(format!(in alloc; "{name}:1:1: NotYet\n")?))
+    let mut text = Bytes::from_slice(alloc, b"refused ")?;
+    append_place(alloc, &mut text, name, place)?;
+    append_goal(alloc, &mut text, goal)?;
+    text.append(b"\n")?;
+    Ok(text)
 }
 
-/// What stands on standard error for a file that can't be opened or read.
-pub fn read_fault_text(alloc: Global, name: &str) -> Result<Text, NoMemory>
+/// Puts a place in a file at the end of a text.
+fn append_place(alloc: Global, text: &mut Bytes, name: &str, place: Place) -> Result<(), NoMemory>
+    ensures { IfOk result (λ _. text.new ≡ text.old ++ place_text name.now place) }
+{
+    let line = place.line;
+    let column = place.column;
+    let said = format!(in alloc; "{name}:{line}:{column}: ")?;
+    text.append(said.as_bytes())?;
+    Ok(())
+}
+
+/// Puts an open goal at the end of a text.
+fn append_goal(alloc: Global, text: &mut Bytes, goal: OpenGoal) -> Result<(), NoMemory>
+    ensures { IfOk result (λ _. text.new ≡ text.old ++ goal_text goal) }
+{
+    match goal {
+        OpenGoal::Unsolved { left, right } => append_equation(alloc, text, left, right),
+    }
+}
+
+fn append_equation(alloc: Global, text: &mut Bytes, left: u32, right: u32) -> Result<(), NoMemory>
+    ensures { IfOk result (λ _. text.new ≡ text.old ++ goal_text (OpenGoal.Unsolved left right)) }
+{
+    let said = format!(in alloc; "unsolved {left} = {right}")?;
+    text.append(said.as_bytes())?;
+    Ok(())
+}
+
+/// On standard error for a file with a fault.
+pub fn fault_text(
+    alloc: Global,
+    name: &str,
+    place: Place,
+    fault: &FileFault,
+) -> Result<Bytes, NoMemory>
+    ensures { IfOk result (λ text. text ≡ fault_text name.now place fault.now) }
+{
+    let mut text = Bytes::new(alloc);
+    append_place(alloc, &mut text, name, place)?;
+    append_fault_kind(&mut text, fault)?;
+    text.append(b"\n")?;
+    Ok(text)
+}
+
+/// Puts the kind of a fault, and the name that it has, at the end of a text.
+fn append_fault_kind(text: &mut Bytes, fault: &FileFault) -> Result<(), NoMemory>
+    ensures { IfOk result (λ _. text.new ≡ text.old ++ fault_kind_text fault.now) }
+{
+    match fault {
+        FileFault::Lexical(LexFaultKind::BadByte) => text.append(b"BadByte"),
+        FileFault::Lexical(LexFaultKind::OpenComment) => text.append(b"OpenComment"),
+        FileFault::Lexical(LexFaultKind::OpenString) => text.append(b"OpenString"),
+        FileFault::Lexical(LexFaultKind::BadNumber) => text.append(b"BadNumber"),
+        FileFault::Lexical(LexFaultKind::Directive(None)) => text.append(b"Directive"),
+        FileFault::Lexical(LexFaultKind::Directive(Some(word))) => append_directive(text, word),
+        FileFault::NotYet => text.append(b"NotYet"),
+    }
+}
+
+fn append_directive(text: &mut Bytes, word: &Bytes) -> Result<(), NoMemory>
+    ensures { IfOk result (λ _. text.new ≡ text.old ++ (codes "Directive " ++ word.now)) }
+{
+    text.append(b"Directive ")?;
+    text.append(word.as_slice())
+}
+
+/// On standard error for a file that can't be opened or read.
+pub fn read_fault_text(alloc: Global, name: &str) -> Result<Bytes, NoMemory>
     ensures { IfOk result (λ text. text ≡ read_fault_text name.now) }
 {
-    Ok(Text::from_string(format!(in alloc; "read fault {name}\n")?))
+    let text = format!(in alloc; "read fault {name}\n")?;
+    Bytes::from_slice(alloc, text.as_bytes())
 }
 
-/// What stands on standard error for a file with a lexical fault.
-pub fn fault_text(alloc: Global, name: &str, fault: &LexFault) -> Result<Text, NoMemory>
-    requires { NameIsText fault.now.kind }
-    ensures { IfOk result (λ text. text ≡ fault_text name.now fault.now) }
+/// On standard error for a limit that was passed.
+pub fn limit_text(alloc: Global, limit: Limit) -> Result<Bytes, NoMemory>
+    ensures { IfOk result (λ text. text ≡ limit_text limit) }
 {
-    let line = fault.place.line;
-    let column = fault.place.column;
-    let kind = fault_kind_text(alloc, &fault.kind)?;
-    let kind = kind.as_str();
-    let text = format!(in alloc; "{name}:{line}:{column}: {kind}\n")?;
-    Ok(Text::from_string(text))
-}
-
-/// The kind of a lexical fault, and the name that it has.
-fn fault_kind_text(alloc: Global, kind: &LexFaultKind) -> Result<Text, NoMemory>
-    requires { NameIsText kind.now }
-    ensures { IfOk result (λ text. text ≡ fault_kind_text kind.now) }
-{
-    match kind {
-        LexFaultKind::BadByte => Text::from_str(alloc, "BadByte"),
-        LexFaultKind::OpenComment => Text::from_str(alloc, "OpenComment"),
-        LexFaultKind::OpenString => Text::from_str(alloc, "OpenString"),
-        LexFaultKind::BadNumber => Text::from_str(alloc, "BadNumber"),
-        LexFaultKind::Directive(None) => Text::from_str(alloc, "Directive"),
-        LexFaultKind::Directive(Some(word)) => directive_text(alloc, word.as_slice()),
-    }
-}
-
-fn directive_text(alloc: Global, word: &[u8]) -> Result<Text, NoMemory>
-    requires { IsUtf8 word.now }
-    ensures { IfOk result (λ text. text ≡ codes "Directive " ++ word.now) }
-{
-    let Ok(word) = str::from_utf8(word) else {
-        unreachable!()
-    };
-    Ok(Text::from_string(format!(in alloc; "Directive {word}")?))
+    let name = limit.name();
+    let number = limit.number();
+    let text = format!(in alloc; "limit {name} {number}\n")?;
+    Bytes::from_slice(alloc, text.as_bytes())
 }
