@@ -10,7 +10,8 @@ use Rattle.c_lexer.specs.Bytes.{is_blank}
 use Rattle.c_lexer.specs.Spelling.{is_word, Spells}
 use Rattle.c_lexer.specs.Tokens.{Begins}
 use Rattle.c_lexer.specs.Comments.{is_line_end, IsBehindGap}
-use Rattle.c_lexer.specs.Directives.{header_text, TokenBehindGap, EndsLine, is_constant}
+use Rattle.c_lexer.specs.Headers.{header_text}
+use Rattle.c_lexer.specs.Directives.{TokenBehindGap, EndsLine, is_constant}
 use Rattle.c_lexer.specs.Scanning.{NoTokenBegins, IsLocated, begins_blank, is_identifier, is_word_kind, IsHeaderLine}
 use Rattle.c_lexer.proofs.Keywords.{is_word-keyword_text}
 use Rattle.c_lexer.proofs.Gaps.{same_behind}
@@ -91,6 +92,8 @@ identifier_is (kinds.Character constant) is = absurd (false≢true is)
 identifier_is kinds.StringLiteral is = absurd (false≢true is)
 identifier_is (kinds.Punctuator punctuator) is = absurd (false≢true is)
 identifier_is kinds.NullPointer is = absurd (false≢true is)
+identifier_is (kinds.HeaderType type) is = absurd (false≢true is)
+identifier_is (kinds.AtomicOperation operation) is = absurd (false≢true is)
 
 pub word_kind_is : (kind : TokenKind) (text : List ℕ) → Spells kind text → is_word_kind kind ≡ true → is_word text ≡ true
 word_kind_is kinds.Identifier text spelled is = spelled.0
@@ -101,6 +104,8 @@ word_kind_is (kinds.Character constant) text spelled is = absurd (false≢true i
 word_kind_is kinds.StringLiteral text spelled is = absurd (false≢true is)
 word_kind_is (kinds.Punctuator punctuator) text spelled is = absurd (false≢true is)
 word_kind_is kinds.NullPointer text spelled is = absurd (false≢true is)
+word_kind_is (kinds.HeaderType type) text spelled is = absurd (false≢true is)
+word_kind_is (kinds.AtomicOperation operation) text spelled is = absurd (false≢true is)
 
 pub no_identifier : (bytes : List ℕ) (kind : TokenKind) (text rest : List ℕ) → TokenBehindGap bytes kind text rest → is_identifier kind ≡ false → (name after : List ℕ) → TokenBehindGap bytes kinds.Identifier name after → ⊥
 no_identifier bytes kind text rest token fails name after identifier =

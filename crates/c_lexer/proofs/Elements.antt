@@ -20,7 +20,7 @@ use Rattle.c_lexer.specs.Scanning.{NoTokenBegins, OpensAs, OpensToken, CanOpen, 
 use Rattle.c_lexer.proofs.Gaps.{line_found}
 use Rattle.c_lexer.proofs.Scans.{looks_token}
 use Rattle.c_lexer.proofs.Uniqueness.{same_begins}
-use Rattle.c_lexer.proofs.Includes.{behind_hash, hash_punctuator}
+use Rattle.c_lexer.proofs.DirectiveScans.{behind_hash, hash_punctuator}
 use Rattle.c_lexer.proofs.Files.{hash_first, blank_first, no_both}
 
 pub no_directive_at : (bytes rest : List ℕ) → rest ≡ drop 1 bytes → ((d : Directive) (after : List ℕ) → FollowsHash rest d after → ⊥) → (d : Directive) (after : List ℕ) → DirectiveBegins bytes d after → ⊥

@@ -19,7 +19,7 @@ use Rattle.c_lexer.proofs.Gaps.{looks_comment, same_comment}
 use Rattle.c_lexer.proofs.PunctuatorScans.{no_token_at_comment}
 use Rattle.c_lexer.proofs.Uniqueness.{same_begins}
 use Rattle.c_lexer.proofs.DirectiveLaws.{token_unblank, same_token_behind}
-use Rattle.c_lexer.proofs.Includes.{same_directive, hash_token}
+use Rattle.c_lexer.proofs.DirectiveScans.{same_directive, hash_token}
 
 pub record SameElement (k l : Kind) (t u q r : List ℕ) : Type 0 where
   pub kind : k ≡ l
@@ -141,7 +141,7 @@ same_whole bytes es fs q r left stops_left right stops_right =
 pub same_tokens : (bytes : List ℕ) (a b : TokenLists) → AreTokensOf bytes a → AreTokensOf bytes b → a ≡ b
 same_tokens bytes a b left right =
     let same = same_whole bytes left.0 right.0 [] [] left.1 (none_at_end (is_fresh left.0)) right.1 (none_at_end (is_fresh right.0)) in
-    left.2 ∙ ap (λ es. record { tokens = tokens_of es; includes = includes_of es }) same.elements ∙ sym right.2
+    left.2 ∙ ap (λ es. record { tokens = tokens_of es; includes = includes_of es (place_after bytes); end = place_after bytes }) same.elements ∙ sym right.2
 
 opens_some : (kind : LexFaultKind) (bytes : List ℕ) → Opens kind bytes → 0 < length bytes
 opens_some faults.BadByte bytes opens = opens.0

@@ -364,6 +364,8 @@ class_of_kind kinds.StringLiteral = 2
 class_of_kind (kinds.Character constant) = 3
 class_of_kind (kinds.Punctuator punctuator) = 4
 class_of_kind kinds.NullPointer = 5
+class_of_kind (kinds.HeaderType type) = 5
+class_of_kind (kinds.AtomicOperation operation) = 5
 
 number_no_letter : (a b : ℕ) → (is_digit a || (eqb a 46 && is_digit b)) ≡ true → is_letter a ≡ false
 number_no_letter a b number = grind (arith, nat_tests)
@@ -392,3 +394,5 @@ class_is (kinds.Character constant) text spelled = character_class constant text
 class_is kinds.StringLiteral text spelled = ap class_of_text spelled.2
 class_is (kinds.Punctuator punctuator) text spelled = ap class_of_text spelled ∙ punctuator_class punctuator
 class_is kinds.NullPointer text spelled = absurd spelled
+class_is (kinds.HeaderType type) text spelled = absurd spelled
+class_is (kinds.AtomicOperation operation) text spelled = absurd spelled

@@ -15,8 +15,8 @@ pub mod ScanNumbers
 pub mod ScanQuotes
 pub mod PunctuatorScans
 pub mod DirectiveLaws
-pub mod Includes
+pub mod DirectiveScans
 pub mod Files
 pub mod Elements
 pub mod Readings
-pub mod MacroTables
+pub mod KindTables

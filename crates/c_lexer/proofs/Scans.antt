@@ -58,6 +58,8 @@ word_by_class (kinds.Character constant) text spelled class = absurd (omega arit
 word_by_class kinds.StringLiteral text spelled class = absurd (omega arith)
 word_by_class (kinds.Punctuator punctuator) text spelled class = absurd (omega arith)
 word_by_class kinds.NullPointer text spelled class = absurd (omega arith)
+word_by_class (kinds.HeaderType type) text spelled class = absurd (omega arith)
+word_by_class (kinds.AtomicOperation operation) text spelled class = absurd (omega arith)
 
 pub number_by_class : (kind : TokenKind) (text : List ℕ) → Spells kind text → class_of_kind kind ≡ 1 → ((constant : IntegerConstant) × IsInteger constant text) ⊎ IsFloating text
 number_by_class kinds.Identifier text spelled class = absurd (omega arith)
@@ -68,6 +70,8 @@ number_by_class (kinds.Character constant) text spelled class = absurd (omega ar
 number_by_class kinds.StringLiteral text spelled class = absurd (omega arith)
 number_by_class (kinds.Punctuator punctuator) text spelled class = absurd (omega arith)
 number_by_class kinds.NullPointer text spelled class = absurd (omega arith)
+number_by_class (kinds.HeaderType type) text spelled class = absurd (omega arith)
+number_by_class (kinds.AtomicOperation operation) text spelled class = absurd (omega arith)
 
 pub string_by_class : (kind : TokenKind) (text : List ℕ) → Spells kind text → class_of_kind kind ≡ 2 → IsString text
 string_by_class kinds.Identifier text spelled class = absurd (omega arith)
@@ -78,6 +82,8 @@ string_by_class (kinds.Character constant) text spelled class = absurd (omega ar
 string_by_class kinds.StringLiteral text spelled class = spelled
 string_by_class (kinds.Punctuator punctuator) text spelled class = absurd (omega arith)
 string_by_class kinds.NullPointer text spelled class = absurd (omega arith)
+string_by_class (kinds.HeaderType type) text spelled class = absurd (omega arith)
+string_by_class (kinds.AtomicOperation operation) text spelled class = absurd (omega arith)
 
 pub character_by_class : (kind : TokenKind) (text : List ℕ) → Spells kind text → class_of_kind kind ≡ 3 → (constant : CharacterConstant) × IsCharacter constant text
 character_by_class kinds.Identifier text spelled class = absurd (omega arith)
@@ -88,6 +94,8 @@ character_by_class (kinds.Character constant) text spelled class = (constant, sp
 character_by_class kinds.StringLiteral text spelled class = absurd (omega arith)
 character_by_class (kinds.Punctuator punctuator) text spelled class = absurd (omega arith)
 character_by_class kinds.NullPointer text spelled class = absurd (omega arith)
+character_by_class (kinds.HeaderType type) text spelled class = absurd (omega arith)
+character_by_class (kinds.AtomicOperation operation) text spelled class = absurd (omega arith)
 
 pub punctuator_by_class : (kind : TokenKind) (text : List ℕ) → Spells kind text → class_of_kind kind ≡ 4 → (punctuator : Punctuator) × (text ≡ punctuator_text punctuator)
 punctuator_by_class kinds.Identifier text spelled class = absurd (omega arith)
@@ -98,6 +106,8 @@ punctuator_by_class (kinds.Character constant) text spelled class = absurd (omeg
 punctuator_by_class kinds.StringLiteral text spelled class = absurd (omega arith)
 punctuator_by_class (kinds.Punctuator punctuator) text spelled class = (punctuator, spelled)
 punctuator_by_class kinds.NullPointer text spelled class = absurd (omega arith)
+punctuator_by_class (kinds.HeaderType type) text spelled class = absurd (omega arith)
+punctuator_by_class (kinds.AtomicOperation operation) text spelled class = absurd (omega arith)
 
 -- a token has a byte at least, and begins with no blank
 pub record LooksToken (text : List ℕ) : Type 0 where
@@ -148,6 +158,8 @@ looks_token (kinds.Character constant) text spelled = looks_character constant t
 looks_token kinds.StringLiteral text spelled = subst LooksToken (sym spelled.2) (record { some = omega arith; no_blank = refl })
 looks_token (kinds.Punctuator punctuator) text spelled = subst LooksToken (sym spelled) (looks_punctuator punctuator)
 looks_token kinds.NullPointer text spelled = absurd spelled
+looks_token (kinds.HeaderType type) text spelled = absurd spelled
+looks_token (kinds.AtomicOperation operation) text spelled = absurd spelled
 
 -- ---- words
 

@@ -47,7 +47,11 @@ same_by_class (kinds.Character a) (kinds.Character b) text class left right = ap
 same_by_class kinds.StringLiteral kinds.StringLiteral text class left right = refl
 same_by_class (kinds.Punctuator a) (kinds.Punctuator b) text class left right = ap (λ punctuator. kinds.Punctuator punctuator) (punctuator_text_injective a b (sym left ∙ right))
 same_by_class kinds.NullPointer b text class left right = absurd left
+same_by_class (kinds.HeaderType type) b text class left right = absurd left
+same_by_class (kinds.AtomicOperation operation) b text class left right = absurd left
 same_by_class a kinds.NullPointer text class left right = absurd right
+same_by_class a (kinds.HeaderType type) text class left right = absurd right
+same_by_class a (kinds.AtomicOperation operation) text class left right = absurd right
 same_by_class a b text class left right = absurd (omega arith)
 
 pub same_kind : (a b : TokenKind) (text : List ℕ) → Spells a text → Spells b text → a ≡ b

@@ -3,22 +3,12 @@ use Rattle.std.specs.Prelude.{◌≡◌, ℕ, Bool, true, false, IsTrue, List, �
 use Rattle.std.specs.Prelude.{if◌then◌else◌}
 use Rattle.std.specs.Str.{bytes_eq}
 use Rattle.c_lexer.specs.declared.header.Header.{Header}
-use Rattle.c_lexer.specs.declared.header.Header.TheVariants as headers
-use Rattle.c_lexer.specs.declared.keyword.Keyword.TheVariants as keywords
 use Rattle.c_lexer.specs.declared.token.TokenKind.{TokenKind}
 use Rattle.c_lexer.specs.declared.token.TokenKind.TheVariants as kinds
-use Rattle.c_lexer.specs.declared.token.IntegerBase.TheVariants as bases
-use Rattle.c_lexer.specs.declared.token.IntegerSuffix.TheVariants as suffixes
+use Rattle.c_lexer.specs.Headers.{header_text, header_macros, header_declarations, kind_among}
 use Rattle.c_lexer.specs.Spelling.{is_word}
 use Rattle.c_lexer.specs.Tokens.{Begins}
 use Rattle.c_lexer.specs.Comments.{is_line_end, IsBehindGap}
-
-abbrev pub header_text : Header → List ℕ
-header_text headers.Stddef = codes "<stddef.h>"
-header_text headers.Stdint = codes "<stdint.h>"
-header_text headers.Stdbool = codes "<stdbool.h>"
-header_text headers.Stdatomic = codes "<stdatomic.h>"
-header_text headers.Refinedc = codes "<refinedc.h>"
 
 -- an include, or a name with the one constant that it stands for
 pub data Directive : Type 0 where
@@ -39,6 +29,8 @@ is_constant (kinds.Integer constant) = true
 is_constant kinds.Floating = true
 is_constant (kinds.Character constant) = true
 is_constant kinds.Identifier = false
+is_constant (kinds.HeaderType type) = false
+is_constant (kinds.AtomicOperation operation) = false
 is_constant (kinds.Keyword keyword) = false
 is_constant kinds.StringLiteral = false
 is_constant (kinds.Punctuator punctuator) = false
@@ -77,21 +69,12 @@ HasName bytes (Some name) = (kind : TokenKind) × (rest : List ℕ) × TokenBehi
 HasName bytes None = (kind : TokenKind) (name rest : List ℕ) → TokenBehindGap bytes kind name rest
     → IsTrue (is_word name) → ⊥
 
--- what a header's macros stand for; the other names that it gives are no macros
-abbrev pub header_macro : Header → List ℕ → Option TokenKind
-header_macro headers.Stddef name = if bytes_eq (codes "NULL") name then Some kinds.NullPointer else None
-header_macro headers.Stdbool name =
-    if bytes_eq (codes "bool") name then Some (kinds.Keyword keywords.Bool)
-    else if bytes_eq (codes "true") name
-    then Some (kinds.Integer (record { value = 1; base = bases.Decimal; suffix = suffixes.Plain }))
-    else if bytes_eq (codes "false") name
-    then Some (kinds.Integer (record { value = 0; base = bases.Decimal; suffix = suffixes.Plain }))
-    else None
-header_macro headers.Stdint name = None
-header_macro headers.Stdatomic name = None
-header_macro headers.Refinedc name = None
-
--- what a directive makes of a name
+-- what a directive makes of a name as a macro
 abbrev pub directive_macro : Directive → List ℕ → Option TokenKind
-directive_macro (Include header) name = header_macro header name
+directive_macro (Include header) name = kind_among (header_macros header) name
 directive_macro (Define defined kind) name = if bytes_eq defined name then Some kind else None
+
+-- what a directive declares a name as
+abbrev pub directive_declaration : Directive → List ℕ → Option TokenKind
+directive_declaration (Include header) name = kind_among (header_declarations header) name
+directive_declaration (Define defined kind) name = None

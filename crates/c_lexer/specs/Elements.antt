@@ -1,18 +1,20 @@
 -- The elements of a file: blanks, comments, directives and tokens, each of which begins where the one before ends.
 -- A list of elements has the last first, so that each stands before the list of those that precede it.
-use Rattle.std.specs.Prelude.{◌≡◌, ◌≢◌, ℕ, Bool, true, false, ◌==◌, ◌||◌, IsTrue, List, [], ◌∷◌, ◌++◌, length, Option}
+use Rattle.std.specs.Prelude.{◌≡◌, ◌≢◌, ℕ, Bool, true, false, ◌==◌, ◌||◌, IsTrue, List, [], ◌∷◌, ◌++◌, Option}
 use Rattle.std.specs.Prelude.{Some, None}
 use Rattle.std.specs.List.{list_any}
+use Rattle.rc_text.specs.declared.place.Place.{Place}
 use Rattle.rc_text.specs.Places.{place_after}
 use Rattle.c_lexer.specs.declared.token.Token.{Token}
 use Rattle.c_lexer.specs.declared.token.TokenKind.{TokenKind}
 use Rattle.c_lexer.specs.declared.token.TokenKind.TheVariants as kinds
 use Rattle.c_lexer.specs.declared.punctuator.Punctuator.TheVariants as punctuators
-use Rattle.c_lexer.specs.declared.tokens.Inclusion.{Inclusion}
+use Rattle.c_lexer.specs.declared.tokens.Include.{Include}
 use Rattle.c_lexer.specs.Bytes.{is_blank}
 use Rattle.c_lexer.specs.Tokens.{Begins}
 use Rattle.c_lexer.specs.Comments.{CommentBegins}
-use Rattle.c_lexer.specs.Directives.{Directive, Include, Define, DirectiveBegins, directive_macro}
+use Rattle.c_lexer.specs.Directives as directives
+use Rattle.c_lexer.specs.Directives.{Directive, DirectiveBegins, directive_macro, directive_declaration}
 
 pub data Kind : Type 0 where
   Blank : Kind
@@ -63,20 +65,36 @@ AreElements bytes (element ∷ earlier) rest =
     (from : List ℕ) × AreElements bytes earlier from
     × ElementBegins (is_fresh earlier) from element.kind element.text rest
 
--- what a name stands for, by the last directive that defines it
+-- what an element makes of a name as a macro, and what it declares it as
 abbrev pub element_macro : Kind → List ℕ → Option TokenKind
 element_macro (Line directive) name = directive_macro directive name
 element_macro Blank name = None
 element_macro Comment name = None
 element_macro (Lexed kind) name = None
 
+abbrev pub element_declaration : Kind → List ℕ → Option TokenKind
+element_declaration (Line directive) name = directive_declaration directive name
+element_declaration Blank name = None
+element_declaration Comment name = None
+element_declaration (Lexed kind) name = None
+
 abbrev pub first_of : Option TokenKind → Option TokenKind → Option TokenKind
 first_of (Some kind) other = Some kind
 first_of None other = other
 
+-- what a name stands for as a macro, by the last directive that defines it
 abbrev pub macro_of : List Element → List ℕ → Option TokenKind
 macro_of [] name = None
 macro_of (element ∷ earlier) name = first_of (element_macro element.kind name) (macro_of earlier name)
+
+-- what the last include that declares a name declares it as
+abbrev pub declaration_of : List Element → List ℕ → Option TokenKind
+declaration_of [] name = None
+declaration_of (element ∷ earlier) name = first_of (element_declaration element.kind name) (declaration_of earlier name)
+
+-- what a name stands for: a macro counts over a declaration
+abbrev pub meaning_of : List Element → List ℕ → Option TokenKind
+meaning_of elements name = first_of (macro_of elements name) (declaration_of elements name)
 
 abbrev pub or_identifier : Option TokenKind → TokenKind
 or_identifier (Some kind) = kind
@@ -85,6 +103,8 @@ or_identifier None = kinds.Identifier
 -- the kind of a token: a name is replaced by what it stands for
 abbrev pub replaced : Option TokenKind → TokenKind → TokenKind
 replaced meaning kinds.Identifier = or_identifier meaning
+replaced meaning (kinds.HeaderType type) = kinds.HeaderType type
+replaced meaning (kinds.AtomicOperation operation) = kinds.AtomicOperation operation
 replaced meaning (kinds.Keyword keyword) = kinds.Keyword keyword
 replaced meaning (kinds.Integer constant) = kinds.Integer constant
 replaced meaning kinds.Floating = kinds.Floating
@@ -93,13 +113,26 @@ replaced meaning kinds.StringLiteral = kinds.StringLiteral
 replaced meaning (kinds.Punctuator punctuator) = kinds.Punctuator punctuator
 replaced meaning kinds.NullPointer = kinds.NullPointer
 
+-- the text that a token keeps: the spelling of a name, and of a string
+abbrev pub kept_text : TokenKind → List ℕ → List ℕ
+kept_text kinds.Identifier text = text
+kept_text (kinds.HeaderType type) text = text
+kept_text (kinds.AtomicOperation operation) text = text
+kept_text kinds.StringLiteral text = text
+kept_text (kinds.Keyword keyword) text = []
+kept_text (kinds.Integer constant) text = []
+kept_text kinds.Floating text = []
+kept_text (kinds.Character constant) text = []
+kept_text (kinds.Punctuator punctuator) text = []
+kept_text kinds.NullPointer text = []
+
+-- the token of a kind that is spelled so and follows these bytes
+abbrev pub token_at : TokenKind → List ℕ → List ℕ → Token
+token_at kind text before = record { kind = kind; place = place_after before; text = kept_text kind text }
+
 -- the token that an element is, if it is one, from what its text stands for and from the bytes before
 abbrev pub token_of : Kind → List ℕ → Option TokenKind → List ℕ → List Token
-token_of (Lexed kind) text meaning before = record {
-  kind = replaced meaning kind;
-  place = place_after before;
-  text = text;
-} ∷ []
+token_of (Lexed kind) text meaning before = token_at (replaced meaning kind) text before ∷ []
 token_of Blank text meaning before = []
 token_of Comment text meaning before = []
 token_of (Line directive) text meaning before = []
@@ -107,19 +140,28 @@ token_of (Line directive) text meaning before = []
 abbrev pub tokens_of : List Element → List Token
 tokens_of [] = []
 tokens_of (element ∷ earlier) = tokens_of earlier
-    ++ token_of element.kind element.text (macro_of earlier element.text) (bytes_of earlier)
+    ++ token_of element.kind element.text (meaning_of earlier element.text) (bytes_of earlier)
 
--- the header that a directive includes, if it does, and how many tokens stand before
-abbrev pub inclusion_by : Directive → ℕ → List Inclusion
-inclusion_by (Include header) tokens = record { header = header; tokens = tokens } ∷ []
-inclusion_by (Define name kind) tokens = []
+-- the place of the first token from an element on, given that of the first one behind it and the bytes before it
+abbrev pub first_place : Kind → List ℕ → Place → Place
+first_place (Lexed kind) before next = place_after before
+first_place Blank before next = next
+first_place Comment before next = next
+first_place (Line directive) before next = next
 
-abbrev pub inclusion_of : Kind → ℕ → List Inclusion
-inclusion_of (Line directive) tokens = inclusion_by directive tokens
-inclusion_of Blank tokens = []
-inclusion_of Comment tokens = []
-inclusion_of (Lexed kind) tokens = []
+-- the header that a directive includes, if it does, with the place of the first token behind
+abbrev pub include_by : Directive → Place → List Include
+include_by (directives.Include header) next = record { header = header; from = next } ∷ []
+include_by (directives.Define name kind) next = []
 
-abbrev pub includes_of : List Element → List Inclusion
-includes_of [] = []
-includes_of (element ∷ earlier) = includes_of earlier ++ inclusion_of element.kind (length (tokens_of earlier))
+abbrev pub include_of : Kind → Place → List Include
+include_of (Line directive) next = include_by directive next
+include_of Blank next = []
+include_of Comment next = []
+include_of (Lexed kind) next = []
+
+-- the includes among elements behind which the first token, or the end, has this place
+abbrev pub includes_of : List Element → Place → List Include
+includes_of [] next = []
+includes_of (element ∷ earlier) next = includes_of earlier (first_place element.kind (bytes_of earlier) next)
+    ++ include_of element.kind next

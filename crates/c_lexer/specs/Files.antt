@@ -1,5 +1,5 @@
 -- The tokens of a file, or its lexical fault: it has one or the other.
-use Rattle.std.specs.Prelude.{◌≡◌, ℕ, ◌<◌, ◌==◌, ◌||◌, IsTrue, List, [], ◌∷◌, length, slice_index}
+use Rattle.std.specs.Prelude.{◌≡◌, ℕ, ◌<◌, ◌≤◌, ◌==◌, ◌||◌, IsTrue, List, [], ◌∷◌, length, slice_index, ◌⊎◌}
 use Rattle.rc_text.specs.Places.{place_after}
 use Rattle.c_lexer.specs.declared.fault.LexFaultKind.{LexFaultKind}
 use Rattle.c_lexer.specs.declared.fault.LexFaultKind.TheVariants.{BadByte, OpenComment, OpenString, BadNumber}
@@ -10,11 +10,15 @@ use Rattle.c_lexer.specs.Directives.{HasName}
 use Rattle.c_lexer.specs.TokenLists.{TokenLists}
 use Rattle.c_lexer.specs.Elements.{Element, is_fresh, bytes_of, AreElements, NoElementBegins, tokens_of, includes_of}
 
--- the elements of the whole file give these tokens and includes
+-- the elements of the whole file give these tokens and includes, and its end is the place that follows all bytes
 abbrev pub AreTokensOf : List ℕ → TokenLists → Type 0
 AreTokensOf bytes lists =
     (elements : List Element) × AreElements bytes elements []
-    × (lists ≡ record { tokens = tokens_of elements; includes = includes_of elements })
+    × (lists ≡ record {
+      tokens = tokens_of elements;
+      includes = includes_of elements (place_after bytes);
+      end = place_after bytes;
+    })
 
 -- What the bytes at which no element begins begin with: a bad byte, `/*`, a double quote, a digit or a quote, or a `#`.
 -- The first such place in a file is its fault.
@@ -39,3 +43,10 @@ IsFaultOf bytes fault = (elements : List Element) × (rest : List ℕ) × IsFaul
 -- the most tokens that a file may have
 abbrev pub token_limit : ℕ
 token_limit = 200000
+
+-- a file has tokens, as many as it may have or more, or a fault, and then no other one
+abbrev pub HasReading : List ℕ → Type 0
+HasReading bytes =
+    ((tokens : TokenLists) × AreTokensOf bytes tokens × (length tokens.tokens ≤ token_limit))
+    ⊎ ((tokens : TokenLists) × AreTokensOf bytes tokens × (token_limit < length tokens.tokens))
+    ⊎ ((fault : LexFault) × IsFaultOf bytes fault × ((other : LexFault) → IsFaultOf bytes other → other ≡ fault))

@@ -6,10 +6,11 @@ pub mod Floating
 pub mod Spelling
 pub mod Tokens
 pub mod Comments
+pub mod Headers
 pub mod Directives
 pub mod TokenLists
 pub mod Elements
 pub mod Files
-pub mod Macros
+pub mod Kinds
 pub mod Scanning
 pub mod Reading

@@ -31,7 +31,8 @@ use Rattle.c_lexer.specs.Floating.{is_floating_suffix, IsScaled}
 use Rattle.c_lexer.specs.Tokens.{Begins}
 use Rattle.c_lexer.specs.Comments.{CommentBegins, GapBegins, IsBehindGap}
 use Rattle.c_lexer.specs.Directives.{Directive, Include, Define, TokenBehindGap, EndsLine, IsInclude, IsDefine}
-use Rattle.c_lexer.specs.Directives.{DirectiveBegins, is_constant, header_text, HasName}
+use Rattle.c_lexer.specs.Headers.{header_text}
+use Rattle.c_lexer.specs.Directives.{DirectiveBegins, is_constant, HasName}
 use Rattle.c_lexer.specs.Elements.{Kind, Blank, Comment, Line, Lexed, ElementBegins, NoElementBegins}
 
 -- no token begins the bytes
@@ -211,6 +212,8 @@ pub record BeginsOtherwise (bytes : List ℕ) : Type 0 where
 abbrev pub is_word_kind : TokenKind → Bool
 is_word_kind kinds.Identifier = true
 is_word_kind (kinds.Keyword keyword) = true
+is_word_kind (kinds.HeaderType type) = false
+is_word_kind (kinds.AtomicOperation operation) = false
 is_word_kind (kinds.Integer constant) = false
 is_word_kind kinds.Floating = false
 is_word_kind (kinds.Character constant) = false
@@ -284,6 +287,8 @@ IsDefineBehind bytes end None = (name : List ℕ) (kind : TokenKind) (rest : Lis
 abbrev pub is_identifier : TokenKind → Bool
 is_identifier kinds.Identifier = true
 is_identifier (kinds.Keyword keyword) = false
+is_identifier (kinds.HeaderType type) = false
+is_identifier (kinds.AtomicOperation operation) = false
 is_identifier (kinds.Integer constant) = false
 is_identifier kinds.Floating = false
 is_identifier (kinds.Character constant) = false

@@ -47,9 +47,11 @@ IsCharacter constant bytes =
     (IsTrue (is_character_byte constant.value) × (bytes ≡ 39 ∷ constant.value ∷ 39 ∷ []))
     ⊎ ((b : ℕ) × (escape_of b ≡ Some constant.value) × (bytes ≡ 39 ∷ 92 ∷ b ∷ 39 ∷ []))
 
--- the bytes spell a token of the kind
+-- The bytes spell a token of the kind. A name is spelled as an identifier, whatever an include makes of it.
 abbrev pub Spells : TokenKind → List ℕ → Type 0
 Spells kinds.Identifier bytes = IsTrue (is_word bytes) × ((keyword : Keyword) → bytes ≢ keyword_text keyword)
+Spells (kinds.HeaderType type) bytes = ⊥
+Spells (kinds.AtomicOperation operation) bytes = ⊥
 Spells (kinds.Keyword keyword) bytes = bytes ≡ keyword_text keyword
 Spells (kinds.Integer constant) bytes = IsInteger constant bytes
 Spells kinds.Floating bytes = IsFloating bytes

@@ -1,6 +1,6 @@
 ghost use Rattle.std.specs.Prelude.{◌≡◌, ◌++◌, List, ℕ, length, IfSome, IfNone};
 ghost use Rattle.c_lexer.specs.declared.header.Header.{Header};
-ghost use Rattle.c_lexer.specs.Directives.{header_text};
+ghost use Rattle.c_lexer.specs.Headers.{header_text};
 
 /// A header that a file may include.
 #[derive(Clone, Copy, Debug, PartialEq, Eq, Hash)]

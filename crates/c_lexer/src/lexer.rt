@@ -2,17 +2,13 @@ ghost use Rattle.std.specs.Prelude.{◌≡◌, ◌^◌, ◌≤◌, ◌<◌, leng
 ghost use Rattle.c_lexer.specs.declared.fault.LexFault.{LexFault};
 ghost use Rattle.c_lexer.specs.TokenLists.{TokenLists};
 ghost use Rattle.c_lexer.specs.Files.{AreTokensOf, IsFaultOf, token_limit};
-ghost use Rattle.c_lexer.specs.Reading.{Refuses};
+ghost use Rattle.c_lexer.specs.Reading.{Answers};
 
 use crate::fault::LexRefusal;
-use crate::macros::Macros;
 use crate::reader::Reader;
 use crate::tokens::Tokens;
-use rc_text::{Bytes, Place};
+use rc_text::Bytes;
 use std::alloc::Global;
-
-/// The most tokens that a file may have.
-pub const TOKEN_LIMIT: usize = 200000;
 
 /// The tokens of a file, by longest match (C11 6.4, paragraph 4), with its macros replaced; or its first
 /// fault, which comes before the limit. Places count in `u32`, so a file has at most 2 ^ 31 bytes.
@@ -31,33 +27,17 @@ pub fn lex(alloc: Global, bytes: &Bytes) -> Result<Tokens, LexRefusal>
     ensures only_many { (tokens : TokenLists) → AreTokensOf bytes.now tokens → token_limit < length tokens.tokens
         → (result ≡ Err LexRefusal.TokenLimit) ⊎ (result ≡ Err LexRefusal.NoMemory) }
 {
-    match read_all(alloc, bytes.as_slice()) {
-        Ok(tokens) => {
-            if tokens.len() <= TOKEN_LIMIT {
-                Ok(tokens)
-            } else {
-                Err(LexRefusal::TokenLimit)
-            }
-        }
-        Err(refusal) => Err(refusal),
-    }
+    read_all(alloc, bytes.as_slice())
 }
 
-/// All tokens of a file, however many there are.
+/// The answer about a file, of which all is read, whatever the tokens before.
 fn read_all(alloc: Global, bytes: &[u8]) -> Result<Tokens, LexRefusal>
     requires { length bytes.now ≤ 2 ^ 31 }
-    ensures found { IfOk result (AreTokensOf bytes.now) }
-    ensures refused { IfErr result (Refuses bytes.now) }
+    ensures { Answers bytes.now result }
 {
-    let mut reader = Reader {
-        place: Place::START,
-        fresh: true,
-        macros: Macros::new(alloc),
-        tokens: Vec::new(alloc),
-        includes: Vec::new(alloc),
-    };
+    let mut reader = Reader::new(alloc);
     while (reader.place.byte as usize) < bytes.len() {
         reader.read(alloc, bytes)?;
     }
-    Ok(Tokens::new(reader.tokens, reader.includes))
+    reader.finish()
 }

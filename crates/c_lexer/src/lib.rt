@@ -3,6 +3,7 @@
 //! then: macros are replaced, and of the includes the tokens keep which stood where.
 #![tactic(auto)]
 
+mod atomic_operation;
 mod byte;
 mod character;
 mod comment;
@@ -12,11 +13,14 @@ mod fault;
 mod floating;
 mod gap;
 mod header;
+mod header_type;
+mod includes;
 mod integer;
 mod keyword;
+mod kinds;
 mod laws;
 mod lexer;
-mod macros;
+mod names;
 mod number;
 mod place;
 mod punctuator;
@@ -29,12 +33,15 @@ mod token;
 mod tokens;
 mod word;
 
+pub use atomic_operation::AtomicOperation;
 pub use fault::{LexFault, LexFaultKind, LexRefusal};
 pub use header::Header;
+pub use header_type::HeaderType;
 pub use keyword::Keyword;
 pub use laws::readings_are_determined;
-pub use lexer::{TOKEN_LIMIT, lex};
+pub use lexer::lex;
 pub use number::{DecimalConstant, integer_constant};
 pub use punctuator::Punctuator;
+pub use reader::TOKEN_LIMIT;
 pub use token::{CharacterConstant, IntegerBase, IntegerConstant, IntegerSuffix, Token, TokenKind};
-pub use tokens::{Inclusion, Tokens};
+pub use tokens::{Include, Tokens};

@@ -1,23 +1,29 @@
 ghost use Rattle.std.specs.Prelude.{◌≡◌, ℕ, ◌+◌, ◌-◌, ◌^◌, ◌≤◌, ◌<◌, List, [], ◌∷◌, ◌++◌, length, take, drop};
 ghost use Rattle.std.specs.Prelude.{slice_range, Option, IfOk, IfErr};
+ghost use Rattle.rc_text.specs.declared.place.Place.{Place};
 ghost use Rattle.c_lexer.specs.declared.token.TokenKind.{TokenKind};
-ghost use Rattle.c_lexer.specs.Directives.{directive_macro, HasName};
-ghost use Rattle.c_lexer.specs.Elements.{Element, first_of, replaced, inclusion_by};
-ghost use Rattle.c_lexer.specs.Files.{Opens};
-ghost use Rattle.c_lexer.specs.Macros.{kind_of};
+ghost use Rattle.c_lexer.specs.Directives.{directive_macro, directive_declaration, HasName};
+ghost use Rattle.c_lexer.specs.Elements.{Element, first_of, replaced, kept_text, include_by};
+ghost use Rattle.c_lexer.specs.Files.{Opens, token_limit};
+ghost use Rattle.c_lexer.specs.Kinds.{kind_of, meaning_in};
 ghost use Rattle.c_lexer.specs.Scanning.{AreWithin, StandWithin, directive_in, kind_in, CanOpen};
-ghost use Rattle.c_lexer.specs.Reading.{HasRead, Stands, Refuses};
+ghost use Rattle.c_lexer.specs.Reading.{includes_at, HasRead, Keeps, Stands, Refuses, Concludes};
+ghost use Rattle.c_lexer.specs.declared.token.Token.{Token};
 
 use crate::directive::{DirectiveKind, name_behind};
 use crate::element::{Found, FoundKind, element};
 use crate::fault::{LexFault, LexFaultKind, LexRefusal};
-use crate::macros::Macros;
+use crate::includes::Includes;
+use crate::names::Names;
 use crate::place::{after_text, has_line_feed};
 use crate::scanner::Unread;
 use crate::token::{Token, TokenKind};
-use crate::tokens::Inclusion;
+use crate::tokens::Tokens;
 use rc_text::{Bytes, NoMemory, Place};
 use std::alloc::Global;
+
+/// The most tokens that a file may have.
+pub const TOKEN_LIMIT: usize = 200000;
 
 /// What was read of a file so far.
 #[derive(Drop)]
@@ -26,12 +32,26 @@ pub(crate) struct Reader {
     pub place: Place,
     /// Whether no token and no directive stands on the line so far.
     pub fresh: bool,
-    pub macros: Macros,
+    pub names: Names,
+    /// The tokens so far, as long as they are no more than one over the limit.
     pub tokens: Vec<Token>,
-    pub includes: Vec<Inclusion>,
+    pub includes: Includes,
 }
 
 impl Reader {
+    /// Nothing is read.
+    pub(crate) fn new(alloc: Global) -> Self
+        ensures { HasRead [] result }
+    {
+        Reader {
+            place: Place::START,
+            fresh: true,
+            names: Names::new(alloc),
+            tokens: Vec::new(alloc),
+            includes: Includes::new(alloc),
+        }
+    }
+
     /// Reads the element that stands at the reader's place.
     pub(crate) fn read(&mut self, alloc: Global, bytes: &[u8]) -> Result<(), LexRefusal>
         requires fits { length bytes.now ≤ 2 ^ 31 }
@@ -99,22 +119,25 @@ impl Reader {
     }
 
     fn add_token(&mut self, alloc: Global, text: &[u8], kind: TokenKind) -> Result<(), NoMemory>
-        ensures added { IfOk result (λ _. self.new.tokens.items ≡ self.old.tokens.items
-            ++ record {
-              kind = replaced (kind_of self.old.macros text.now) kind;
+        ensures added { IfOk result (λ _. (tokens : List Token) → Keeps self.old.tokens.items tokens
+            → Keeps self.new.tokens.items (tokens ++ record {
+              kind = replaced (meaning_in self.old.names text.now) kind;
               place = self.old.place;
-              text = text.now;
-            } ∷ []) }
-        ensures kept { IfOk result (λ _. (self.new.place ≡ self.old.place) × (self.new.macros ≡ self.old.macros)
-            × (self.new.includes ≡ self.old.includes)) }
+              text = kept_text (replaced (meaning_in self.old.names text.now) kind) text.now;
+            } ∷ [])) }
+        ensures includes { IfOk result (λ _. (next : Place)
+            → includes_at self.new.includes next ≡ includes_at self.old.includes self.old.place) }
+        ensures kept { IfOk result (λ _. (self.new.place ≡ self.old.place) × (self.new.names ≡ self.old.names)) }
     {
-        let kind = replaced(self.macros.get(text), kind);
-        let text = Bytes::from_slice(alloc, text)?;
-        self.tokens.push(Token {
-            kind,
-            place: self.place,
-            text,
-        })?;
+        self.includes.reach(self.place)?;
+        if self.tokens.len() <= TOKEN_LIMIT {
+            let kind = self.names.kind_of(text, kind);
+            self.tokens.push(Token {
+                kind,
+                place: self.place,
+                text: kept_text(alloc, kind, text)?,
+            })?;
+        }
         Ok(())
     }
 
@@ -126,42 +149,55 @@ impl Reader {
         directive: DirectiveKind,
     ) -> Result<(), NoMemory>
         requires { AreWithin directive (length rest.now) }
-        ensures macros { IfOk result (λ _. (name : List ℕ)
-            → kind_of self.new.macros name
-            ≡ first_of (directive_macro (directive_in rest.now directive) name) (kind_of self.old.macros name)) }
-        ensures includes { IfOk result (λ _. self.new.includes.items ≡ self.old.includes.items
-            ++ inclusion_by (directive_in rest.now directive) (length self.old.tokens.items)) }
+        ensures macros { IfOk result (λ _. (name : List ℕ) → kind_of self.new.names.macros name
+            ≡ first_of (directive_macro (directive_in rest.now directive) name) (kind_of self.old.names.macros name)) }
+        ensures declarations { IfOk result (λ _. (name : List ℕ) → kind_of self.new.names.declarations name
+            ≡ first_of (directive_declaration (directive_in rest.now directive) name)
+            (kind_of self.old.names.declarations name)) }
+        ensures includes { IfOk result (λ _. (next : Place) → includes_at self.new.includes next
+            ≡ includes_at self.old.includes next ++ include_by (directive_in rest.now directive) next) }
         ensures kept { IfOk result (λ _. (self.new.place ≡ self.old.place) × (self.new.tokens ≡ self.old.tokens)) }
     {
         match directive {
             DirectiveKind::Include(header) => {
-                self.includes.push(Inclusion {
-                    header,
-                    tokens: self.tokens.len(),
-                })?;
-                self.macros.include(alloc, header)
+                self.includes.add(header)?;
+                self.names.include(alloc, header)
             }
             DirectiveKind::Define(definition) => {
                 let name = &rest[definition.start..definition.end];
-                self.macros.define(alloc, name, definition.kind)
+                self.names.define(alloc, name, definition.kind)
             }
+        }
+    }
+
+    /// The tokens of the file, of which all was read, or that they are too many.
+    pub(crate) fn finish(self) -> Result<Tokens, LexRefusal>
+        ensures { (elements : List Element) → HasRead elements self → Concludes elements result }
+    {
+        if self.tokens.len() <= TOKEN_LIMIT {
+            let includes = self.includes.at_end(self.place)?;
+            Ok(Tokens::new(self.tokens, includes, self.place))
+        } else {
+            Err(LexRefusal::TokenLimit)
         }
     }
 }
 
-/// The kind of a token whose text may be a macro's name.
-fn replaced(meaning: Option<TokenKind>, kind: TokenKind) -> TokenKind
-    ensures { result ≡ replaced meaning kind }
+/// The text that a token of a kind keeps.
+fn kept_text(alloc: Global, kind: TokenKind, text: &[u8]) -> Result<Bytes, NoMemory>
+    ensures { IfOk result (λ kept. kept ≡ kept_text kind text.now) }
 {
     match kind {
-        TokenKind::Identifier => meaning.unwrap_or(kind),
+        TokenKind::Identifier
+        | TokenKind::HeaderType(_)
+        | TokenKind::AtomicOperation(_)
+        | TokenKind::StringLiteral => Bytes::from_slice(alloc, text),
         TokenKind::Keyword(_)
         | TokenKind::Integer(_)
         | TokenKind::Floating
         | TokenKind::Character(_)
-        | TokenKind::StringLiteral
         | TokenKind::Punctuator(_)
-        | TokenKind::NullPointer => kind,
+        | TokenKind::NullPointer => Ok(Bytes::new(alloc)),
     }
 }
 

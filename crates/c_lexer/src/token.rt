@@ -1,3 +1,5 @@
+use crate::atomic_operation::AtomicOperation;
+use crate::header_type::HeaderType;
 use crate::keyword::Keyword;
 use crate::punctuator::Punctuator;
 use rc_text::{Bytes, Place};
@@ -36,10 +38,16 @@ pub struct CharacterConstant {
     pub value: u8,
 }
 
-/// What kind of token it is, with the value of a constant.
+/// What kind of token it is, with the value of a constant. A name that a header gives has a kind of its own
+/// from the include on: `HeaderType` and `AtomicOperation` are identifiers that the header declares at file
+/// scope, so that a local declaration may hide them; what a macro stands for is no identifier any more.
 #[derive(Clone, Copy, Debug, PartialEq, Eq, Hash)]
 pub enum TokenKind {
     Identifier,
+    /// The name of a type that an include gives.
+    HeaderType(HeaderType),
+    /// The name of an operation that an include gives.
+    AtomicOperation(AtomicOperation),
     Keyword(Keyword),
     Integer(IntegerConstant),
     /// A floating constant. No later layer asks for its value.
@@ -51,9 +59,10 @@ pub enum TokenKind {
     NullPointer,
 }
 
-/// A token: its kind, the place of its first byte, and its bytes as they stand in the file, the quotes
-/// of a string included. A token that a macro made has the kind that the macro stands for, and the place
-/// and the text of the macro's name.
+/// A token: its kind, the place of its first byte, and the text that later layers read. That is the
+/// spelling of an identifier (`Identifier`, `HeaderType`, `AtomicOperation`), and of a string with its
+/// quotes; every other kind has none. A token that a macro made has the kind that the macro stands for, and
+/// the place of the macro's name.
 #[derive(Debug, Drop)]
 pub struct Token {
     pub kind: TokenKind,

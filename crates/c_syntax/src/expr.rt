@@ -1,11 +1,10 @@
 use crate::declarator::AbstractDeclarator;
 use crate::name::Name;
 use crate::operator::{
-    AssignmentOperator, AtomicOperation, BinaryOperator, IncrementOperator, LogicalOperator,
-    UnaryOperator,
+    AssignmentOperator, BinaryOperator, IncrementOperator, LogicalOperator, UnaryOperator,
 };
 use crate::specifier::TypeSpecifier;
-use c_lexer::{CharacterConstant, IntegerConstant};
+use c_lexer::{AtomicOperation, CharacterConstant, IntegerConstant};
 use rc_text::{Bytes, Place};
 use sqlite_items::{Boxed, Items};
 

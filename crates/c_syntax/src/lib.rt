@@ -18,6 +18,7 @@ mod tests;
 mod unit;
 
 pub use attribute::{Attribute, AttributeText};
+pub use c_lexer::{AtomicOperation, HeaderType, Include};
 pub use declaration::{Declaration, DeclarationKind, InitDeclarator};
 pub use declarator::{
     AbstractDeclarator, Declarator, FunctionDeclarator, Parameter, ParameterDeclarator,
@@ -25,13 +26,12 @@ pub use declarator::{
 pub use expr::{Expr, ExprKind, TypeName};
 pub use name::Name;
 pub use operator::{
-    AssignmentOperator, AtomicOperation, BinaryOperator, IncrementOperator, LogicalOperator,
-    UnaryOperator,
+    AssignmentOperator, BinaryOperator, IncrementOperator, LogicalOperator, UnaryOperator,
 };
 pub use path::{Path, stmt_at};
 pub use specifier::{
-    EnumDefinition, Enumerator, HeaderType, IntegerType, MemberDeclaration, RecordDefinition,
-    RecordKind, TypeSpecifier,
+    EnumDefinition, Enumerator, IntegerType, MemberDeclaration, RecordDefinition, RecordKind,
+    TypeSpecifier,
 };
 pub use stmt::{ForInit, Label, Stmt, StmtKind};
-pub use unit::{FunctionDefinition, Include, Item, ItemKind, Unit};
+pub use unit::{FunctionDefinition, Item, ItemKind, Unit};

@@ -2,6 +2,7 @@ use crate::attribute::Attribute;
 use crate::declarator::Declarator;
 use crate::expr::Expr;
 use crate::name::Name;
+use c_lexer::HeaderType;
 use rc_text::Bytes;
 use sqlite_items::Items;
 
@@ -20,21 +21,6 @@ pub enum IntegerType {
     UnsignedLong,
     LongLong,
     UnsignedLongLong,
-}
-
-/// The types that the headers name (C11 7.19, 7.20.1.1, 7.17.6).
-#[derive(Clone, Copy, Debug, PartialEq, Eq, Hash)]
-pub enum HeaderType {
-    Size,
-    Int8,
-    Int16,
-    Int32,
-    Int64,
-    Uint8,
-    Uint16,
-    Uint32,
-    Uint64,
-    AtomicBool,
 }
 
 /// C11's struct-or-union.

@@ -3,17 +3,9 @@ use crate::declaration::Declaration;
 use crate::declarator::FunctionDeclarator;
 use crate::specifier::TypeSpecifier;
 use crate::stmt::Stmt;
-use c_lexer::Header;
+use c_lexer::Include;
 use rc_text::Place;
 use sqlite_items::Items;
-
-/// A header that is included. `from` is the place of the first token behind the directive, from which on the
-/// header's names stand at file scope; behind the last token it is that of the end of the file.
-#[derive(Debug, Drop)]
-pub struct Include {
-    pub header: Header,
-    pub from: Place,
-}
 
 /// A function with its body, a compound (C11 6.9.1). A fault or goal about the function as a whole stands at
 /// the declarator's name.

@@ -1,7 +1,7 @@
 use Rattle.std.proofs.Common.{◌+◌, ◌-◌, refl, sym, ap, length, take, drop, subst, arith}
 use Rattle.std.proofs.lemmas.List.{take_rest, length-drop}
 use Rattle.c_lexer.specs.Scanning.{IsDefinitionLine}
-use Rattle.c_lexer.proofs.Includes.{definition_shift}
+use Rattle.c_lexer.proofs.DirectiveScans.{definition_shift}
 use Rattle.c_lexer.proofs.directive.define_body.Goals as goal
 
 pub returns-in-Some : goal.returns-in-Some

@@ -4,7 +4,7 @@ use Rattle.std.proofs.lemmas.Bool.{false≢true}
 use Rattle.std.proofs.lemmas.Slice.Eq.{bytes_eq-Decides}
 use Rattle.c_lexer.specs.declared.token.TokenKind.TheVariants as kinds
 use Rattle.c_lexer.specs.Directives.{TokenBehindGap}
-use Rattle.c_lexer.proofs.Includes.{include_found, define_found, no_directive, no_word}
+use Rattle.c_lexer.proofs.DirectiveScans.{include_found, define_found, no_directive, no_word}
 use Rattle.c_lexer.proofs.directive.directive_body.Goals as goal
 
 pub returns-then-eq : goal.returns-then-eq

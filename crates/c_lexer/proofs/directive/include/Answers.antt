@@ -1,8 +1,8 @@
 use Rattle.std.proofs.Common.{◌+◌, ap, length, arith, take, drop, ◌-◌}
 use Rattle.std.proofs.lemmas.List.{take_rest, length-drop, length-append}
-use Rattle.c_lexer.specs.Directives.{header_text}
+use Rattle.c_lexer.specs.Headers.{header_text}
 use Rattle.c_lexer.proofs.DirectiveLaws.{header_line, header_front}
-use Rattle.c_lexer.proofs.Includes.{no_header_end}
+use Rattle.c_lexer.proofs.DirectiveScans.{no_header_end}
 use Rattle.c_lexer.proofs.directive.include.Goals as goal
 
 pub returns-in-Some-line_end : goal.returns-in-Some-line_end

@@ -14,7 +14,8 @@ use Rattle.c_lexer.specs.Bytes.{is_blank, is_letter, is_digit}
 use Rattle.c_lexer.specs.Punctuator.{punctuator_text}
 use Rattle.c_lexer.specs.Tokens.{Begins}
 use Rattle.c_lexer.specs.Comments.{IsGap, IsBehindGap, GapBegins}
-use Rattle.c_lexer.specs.Directives.{Directive, Include, Define, header_text, TokenBehindGap, EndsLine, IsInclude, IsDefine, DirectiveBegins}
+use Rattle.c_lexer.specs.Headers.{header_text}
+use Rattle.c_lexer.specs.Directives.{Directive, Include, Define, TokenBehindGap, EndsLine, IsInclude, IsDefine, DirectiveBegins}
 use Rattle.c_lexer.specs.Scanning.{IsHeaderLine, IsConstantLine, IsDefinitionLine, FollowsHash, IsIncludeBehind, IsDefineBehind, IsDirectiveBody, directive_in, AreWithin}
 use Rattle.c_lexer.proofs.Punctuators.{hash_or_two}
 use Rattle.c_lexer.proofs.Lists.{first_of_front}
