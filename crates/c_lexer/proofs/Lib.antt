@@ -20,3 +20,4 @@ pub mod Files
 pub mod Elements
 pub mod Readings
 pub mod KindTables
+pub mod Totality

@@ -168,10 +168,13 @@ concluded bytes reader stands result all concludes = whole result concludes
   where
     elements : List Element
     elements = stands.elements
+
     are : AreElements bytes elements []
     are = subst (λ l. AreElements bytes elements l) (drop_all reader.place.byte bytes all) stands.are
+
     same : bytes_of elements ≡ bytes
     same = stands.before ∙ take_all reader.place.byte bytes all
+
     whole : (answer : Result TokenLists LexRefusal) → Concludes elements answer → Answers bytes answer
     whole (Ok lists) is = (
       (elements, are, is.1 ∙ (λ i. record { tokens = tokens_of elements; includes = includes_of elements (place_after (same i)); end = place_after (same i) })),

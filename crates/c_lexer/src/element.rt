@@ -1,9 +1,11 @@
-ghost use Rattle.std.specs.Prelude.{◌<◌, ◌≡◌, ◌==◌, ◌&&◌, length, slice_index};
-ghost use Rattle.c_lexer.specs.Scanning.{IsFound, IsHashFound};
+ghost use Rattle.std.specs.Prelude.{◌<◌, ◌≡◌, ◌==◌, ◌&&◌, ℕ, List, length, slice_index};
+ghost use Rattle.c_lexer.specs.Elements.{is_fresh_after};
+ghost use Rattle.c_lexer.specs.Scanning.{IsFound, IsHashFound, kind_in};
 
 use crate::byte::{byte_at, is_blank};
 use crate::comment::comment_length;
 use crate::directive::{DirectiveKind, directive_body};
+use crate::place::has_line_feed;
 use crate::scanner::{Unread, scan};
 use crate::token::TokenKind;
 
@@ -52,6 +54,16 @@ pub(crate) fn element(bytes: &[u8], fresh: bool) -> Result<Found, Unread>
             }
         }
         Err(unread) => Err(unread),
+    }
+}
+
+/// Whether no token and no directive stands on the line behind an element, given the same before it.
+pub(crate) fn is_fresh_after(kind: FoundKind, text: &[u8], fresh: bool) -> bool
+    ensures { (bytes : List ℕ) → result ≡ is_fresh_after (kind_in bytes kind) text.now fresh }
+{
+    match kind {
+        FoundKind::Blank | FoundKind::Comment => has_line_feed(text) || fresh,
+        FoundKind::Line(_) | FoundKind::Lexed(_) => false,
     }
 }
 

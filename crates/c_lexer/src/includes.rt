@@ -52,11 +52,7 @@ impl Includes {
 }
 
 /// Adds these headers as includes from the place on.
-fn place_headers(
-    placed: &mut Vec<Include>,
-    headers: &[Header],
-    from: Place,
-) -> Result<(), NoMemory>
+fn place_headers(placed: &mut Vec<Include>, headers: &[Header], from: Place) -> Result<(), NoMemory>
     ensures { IfOk result (λ _. placed.new.items ≡ placed.old.items
         ++ map (λ header. record { header = header; from = from }) headers.now) }
 {

@@ -96,9 +96,21 @@ impl Kinds {
         ensures { IfOk result (λ _. (name : List ℕ) → kind_of self.new name
             ≡ first_of (kind_among (header_declarations headers.Stdint) name) (kind_of self.old name)) }
     {
-        self.define(alloc, b"uint64_t", TokenKind::HeaderType(HeaderType::Uint64))?;
-        self.define(alloc, b"uint32_t", TokenKind::HeaderType(HeaderType::Uint32))?;
-        self.define(alloc, b"uint16_t", TokenKind::HeaderType(HeaderType::Uint16))?;
+        self.define(
+            alloc,
+            b"uint64_t",
+            TokenKind::HeaderType(HeaderType::Uint64),
+        )?;
+        self.define(
+            alloc,
+            b"uint32_t",
+            TokenKind::HeaderType(HeaderType::Uint32),
+        )?;
+        self.define(
+            alloc,
+            b"uint16_t",
+            TokenKind::HeaderType(HeaderType::Uint16),
+        )?;
         self.define(alloc, b"uint8_t", TokenKind::HeaderType(HeaderType::Uint8))?;
         self.define(alloc, b"int64_t", TokenKind::HeaderType(HeaderType::Int64))?;
         self.define(alloc, b"int32_t", TokenKind::HeaderType(HeaderType::Int32))?;
@@ -110,11 +122,31 @@ impl Kinds {
         ensures { IfOk result (λ _. (name : List ℕ) → kind_of self.new name
             ≡ first_of (kind_among (header_declarations headers.Stdatomic) name) (kind_of self.old name)) }
     {
-        self.define(alloc, b"atomic_compare_exchange_strong", TokenKind::AtomicOperation(AtomicOperation::CompareExchangeStrong))?;
-        self.define(alloc, b"atomic_exchange", TokenKind::AtomicOperation(AtomicOperation::Exchange))?;
-        self.define(alloc, b"atomic_store", TokenKind::AtomicOperation(AtomicOperation::Store))?;
-        self.define(alloc, b"atomic_load", TokenKind::AtomicOperation(AtomicOperation::Load))?;
-        self.define(alloc, b"atomic_bool", TokenKind::HeaderType(HeaderType::AtomicBool))
+        self.define(
+            alloc,
+            b"atomic_compare_exchange_strong",
+            TokenKind::AtomicOperation(AtomicOperation::CompareExchangeStrong),
+        )?;
+        self.define(
+            alloc,
+            b"atomic_exchange",
+            TokenKind::AtomicOperation(AtomicOperation::Exchange),
+        )?;
+        self.define(
+            alloc,
+            b"atomic_store",
+            TokenKind::AtomicOperation(AtomicOperation::Store),
+        )?;
+        self.define(
+            alloc,
+            b"atomic_load",
+            TokenKind::AtomicOperation(AtomicOperation::Load),
+        )?;
+        self.define(
+            alloc,
+            b"atomic_bool",
+            TokenKind::HeaderType(HeaderType::AtomicBool),
+        )
     }
 }
 

@@ -38,7 +38,7 @@ pub use fault::{LexFault, LexFaultKind, LexRefusal};
 pub use header::Header;
 pub use header_type::HeaderType;
 pub use keyword::Keyword;
-pub use laws::readings_are_determined;
+pub use laws::{every_file_has_a_reading, readings_are_determined};
 pub use lexer::lex;
 pub use number::{DecimalConstant, integer_constant};
 pub use punctuator::Punctuator;

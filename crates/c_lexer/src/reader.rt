@@ -174,12 +174,11 @@ impl Reader {
     pub(crate) fn finish(self) -> Result<Tokens, LexRefusal>
         ensures { (elements : List Element) → HasRead elements self → Concludes elements result }
     {
-        if self.tokens.len() <= TOKEN_LIMIT {
-            let includes = self.includes.at_end(self.place)?;
-            Ok(Tokens::new(self.tokens, includes, self.place))
-        } else {
-            Err(LexRefusal::TokenLimit)
+        if self.tokens.len() > TOKEN_LIMIT {
+            return Err(LexRefusal::TokenLimit);
         }
+        let includes = self.includes.at_end(self.place)?;
+        Ok(Tokens::new(self.tokens, includes, self.place))
     }
 }
 

@@ -39,26 +39,32 @@ pub(crate) fn expect_kinds(rt: &impl Abort, alloc: Global, text: &[u8], kinds: &
     }
 }
 
-/// The texts of a text's tokens, joined by blanks, are these.
-pub(crate) fn expect_texts(
+/// A text's tokens begin where these do: the tokens' spellings in order, parted by blanks.
+pub(crate) fn expect_spellings(
     rt: &impl Abort,
     alloc: Global,
     text: &str,
     want: &str,
 ) -> Result<(), Fail> {
     let tokens = lexed(rt, alloc, text.as_bytes()).ok().ok_or("refused")?;
-    let mut joined = Bytes::new(alloc);
-    for token in tokens.as_slice() {
-        if !joined.is_empty() {
-            joined.append(b" ")?;
+    let mut count = 0usize;
+    let mut behind = 0usize;
+    for spelling in want.split(' ') {
+        if spelling.is_empty() {
+            continue;
         }
-        joined.append(token.text.as_slice())?;
+        let place = tokens.as_slice().get(count).ok_or("too few")?.place;
+        let at = place.byte as usize;
+        let rest = text.as_bytes().get(at..).ok_or("a place past the end")?;
+        assert!(rt;
+            rest.starts_with(spelling.as_bytes()),
+            "{text} has {spelling}"
+        );
+        assert!(rt; behind <= at, "{text} has {spelling} too early");
+        behind = at.saturating_add(spelling.len());
+        count = count.saturating_add(1);
     }
-    assert!(rt;
-        joined.as_slice() == want.as_bytes(),
-        "{text} gives {:?}",
-        joined.as_slice()
-    );
+    assert!(rt; tokens.len() == count, "the number of tokens of {text}");
     Ok(())
 }
 
@@ -196,7 +202,7 @@ fn takes_the_longest(rt: HostRuntime) -> Result<(), Fail> {
         ("%:x", "% : x"),
         ("<:x", "< : x"),
     ] {
-        expect_texts(&rt, rt.alloc(), text, want)?;
+        expect_spellings(&rt, rt.alloc(), text, want)?;
     }
     Ok(())
 }

@@ -1,5 +1,10 @@
-use crate::tests::{character, decimal, expect_fault, expect_kinds, expect_texts, integer, lexed};
-use crate::{Header, Inclusion, IntegerBase, IntegerSuffix, Keyword, Punctuator, TokenKind};
+use crate::tests::{
+    character, decimal, expect_fault, expect_kinds, expect_spellings, integer, lexed,
+};
+use crate::{
+    AtomicOperation, Header, HeaderType, Include, IntegerBase, IntegerSuffix, Keyword, Punctuator,
+    TokenKind,
+};
 use rc_text::Place;
 use std::test::Fail;
 
@@ -19,7 +24,12 @@ fn includes_give_their_macros(rt: HostRuntime) -> Result<(), Fail> {
         &rt,
         alloc,
         b"NULL\n#include <stddef.h>\nNULL size_t bool",
-        &[NAME, TokenKind::NullPointer, NAME, NAME],
+        &[
+            NAME,
+            TokenKind::NullPointer,
+            TokenKind::HeaderType(HeaderType::Size),
+            NAME,
+        ],
     );
     expect_kinds(
         &rt,
@@ -33,14 +43,147 @@ fn includes_give_their_macros(rt: HostRuntime) -> Result<(), Fail> {
             NAME,
         ],
     );
-    for text in [
-        "#include <stdint.h>\nint8_t NULL true",
-        "#include <stdatomic.h>\natomic_bool NULL true",
-        "#include <refinedc.h>\nint8_t NULL true",
+    expect_kinds(
+        &rt,
+        alloc,
+        b"#include <refinedc.h>\nint8_t NULL true",
+        &[NAME, NAME, NAME],
+    );
+    Ok(())
+}
+
+/// Each name that a header declares, by its kind: before the include, behind it, and behind the others alone.
+#[test]
+fn includes_declare_their_names(rt: HostRuntime) -> Result<(), Fail> {
+    let alloc = rt.alloc();
+    for (header, name, kind) in [
+        ("stddef", "size_t", TokenKind::HeaderType(HeaderType::Size)),
+        ("stdint", "int8_t", TokenKind::HeaderType(HeaderType::Int8)),
+        (
+            "stdint",
+            "int16_t",
+            TokenKind::HeaderType(HeaderType::Int16),
+        ),
+        (
+            "stdint",
+            "int32_t",
+            TokenKind::HeaderType(HeaderType::Int32),
+        ),
+        (
+            "stdint",
+            "int64_t",
+            TokenKind::HeaderType(HeaderType::Int64),
+        ),
+        (
+            "stdint",
+            "uint8_t",
+            TokenKind::HeaderType(HeaderType::Uint8),
+        ),
+        (
+            "stdint",
+            "uint16_t",
+            TokenKind::HeaderType(HeaderType::Uint16),
+        ),
+        (
+            "stdint",
+            "uint32_t",
+            TokenKind::HeaderType(HeaderType::Uint32),
+        ),
+        (
+            "stdint",
+            "uint64_t",
+            TokenKind::HeaderType(HeaderType::Uint64),
+        ),
+        (
+            "stdatomic",
+            "atomic_bool",
+            TokenKind::HeaderType(HeaderType::AtomicBool),
+        ),
+        (
+            "stdatomic",
+            "atomic_load",
+            TokenKind::AtomicOperation(AtomicOperation::Load),
+        ),
+        (
+            "stdatomic",
+            "atomic_store",
+            TokenKind::AtomicOperation(AtomicOperation::Store),
+        ),
+        (
+            "stdatomic",
+            "atomic_exchange",
+            TokenKind::AtomicOperation(AtomicOperation::Exchange),
+        ),
+        (
+            "stdatomic",
+            "atomic_compare_exchange_strong",
+            TokenKind::AtomicOperation(AtomicOperation::CompareExchangeStrong),
+        ),
+        ("stdint", "intptr_t", NAME),
+        ("stdint", "uint8", NAME),
+        ("stddef", "ptrdiff_t", NAME),
+        ("stdatomic", "atomic_int", NAME),
+        ("stdatomic", "atomic_compare_exchange_weak", NAME),
     ] {
-        expect_kinds(&rt, alloc, text.as_bytes(), &[NAME, NAME, NAME]);
+        let text = format!(in alloc; "{name}\n#include <{header}.h>\n{name} {name}")?;
+        expect_kinds(&rt, alloc, text.as_bytes(), &[NAME, kind, kind]);
+        let tokens = lexed(&rt, alloc, text.as_bytes()).ok().ok_or("refused")?;
+        for token in tokens.as_slice() {
+            assert!(rt;
+                token.text.as_slice() == name.as_bytes(),
+                "the text of {name}"
+            );
+        }
+        for other in ["stddef", "stdint", "stdbool", "stdatomic", "refinedc"] {
+            if other != header {
+                let text = format!(in alloc; "#include <{other}.h>\n{name}")?;
+                expect_kinds(&rt, alloc, text.as_bytes(), &[NAME]);
+            }
+        }
     }
     Ok(())
+}
+
+#[test]
+fn macros_count_over_declarations(rt: HostRuntime) -> Result<(), Fail> {
+    let alloc = rt.alloc();
+    let size = TokenKind::HeaderType(HeaderType::Size);
+    expect_kinds(
+        &rt,
+        alloc,
+        b"#define size_t 3\n#include <stddef.h>\nsize_t",
+        &[decimal(3)],
+    );
+    expect_kinds(
+        &rt,
+        alloc,
+        b"#include <stddef.h>\nsize_t\n#define size_t 3\nsize_t\n#include <stddef.h>\nsize_t",
+        &[size, decimal(3), decimal(3)],
+    );
+    Ok(())
+}
+
+/// Only names and strings keep their text.
+#[test]
+fn keeps_texts(rt: HostRuntime) -> Result<(), Fail> {
+    let text = b"#include <stddef.h>\n#define X 1\nab \"c\" size_t NULL X 12 1.5 'd' int ;";
+    let tokens = lexed(&rt, rt.alloc(), text).ok().ok_or("refused")?;
+    let want: [&[u8]; 10] = [
+        b"ab", b"\"c\"", b"size_t", b"", b"", b"", b"", b"", b"", b"",
+    ];
+    assert_eq!(rt; tokens.len(), 10);
+    for (index, token) in tokens.as_slice().iter().enumerate() {
+        assert!(rt;
+            Some(&token.text.as_slice()) == want.get(index),
+            "the text of token {index}"
+        );
+    }
+    Ok(())
+}
+
+/// A place, by its byte, line and column.
+fn at(byte: u32, line: u32, column: u32) -> Place {
+    Place { byte, line, column }
 }
 
 #[test]
@@ -49,20 +192,21 @@ fn keeps_the_includes(rt: HostRuntime) -> Result<(), Fail> {
         b"#include <stdint.h>\na b\n# /*x*/ include /**/ <stddef.h> /*y\n*/ // z\nc\n#include <stdint.h>";
     let tokens = lexed(&rt, rt.alloc(), text).ok().ok_or("refused")?;
     let want = [
-        Inclusion {
+        Include {
             header: Header::Stdint,
-            tokens: 0,
+            from: at(20, 2, 1),
         },
-        Inclusion {
+        Include {
             header: Header::Stddef,
-            tokens: 2,
+            from: at(68, 5, 1),
         },
-        Inclusion {
+        Include {
             header: Header::Stdint,
-            tokens: 3,
+            from: at(89, 6, 20),
         },
     ];
     assert!(rt; tokens.includes() == want.as_slice());
+    assert!(rt; tokens.end() == at(89, 6, 20));
     assert_eq!(rt; tokens.len(), 3);
     Ok(())
 }
@@ -118,7 +262,7 @@ fn defines_count_from_their_line_on(rt: HostRuntime) -> Result<(), Fail> {
         b"##",
         &[TokenKind::Punctuator(Punctuator::HashHash)],
     );
-    expect_texts(&rt, alloc, "#define X 3\na X b\n", "a X b")?;
+    expect_spellings(&rt, alloc, "#define X 3\na X b\n", "a X b")?;
     let tokens = lexed(&rt, alloc, b"#define X 3\na X")
         .ok()
         .ok_or("refused")?;

@@ -74,3 +74,23 @@ fn keeps_the_limit(rt: HostRuntime) -> Result<(), Fail> {
     assert!(rt; matches!(answer, Err(LexRefusal::Fault(_))));
     Ok(())
 }
+
+#[test]
+fn the_end_follows_all_bytes(rt: HostRuntime) -> Result<(), Fail> {
+    for (text, byte, line, column) in [
+        ("", 0, 1, 1),
+        ("a", 1, 1, 2),
+        ("a\n", 2, 2, 1),
+        (" /* b\n\n */ // c", 15, 3, 9),
+        ("a\n#define x 1", 13, 2, 12),
+    ] {
+        let tokens = lexed(&rt, rt.alloc(), text.as_bytes())
+            .ok()
+            .ok_or("refused")?;
+        assert!(rt;
+            tokens.end() == Place { byte, line, column },
+            "the end of {text}"
+        );
+    }
+    Ok(())
+}
