@@ -119,6 +119,14 @@ fn is_same_kind(kind: TokenKind, other: TokenKind) -> bool
             TokenKind::Identifier => true,
             _ => false,
         },
+        TokenKind::HeaderType(header_type) => match other {
+            TokenKind::HeaderType(wanted) => header_type == wanted,
+            _ => false,
+        },
+        TokenKind::AtomicOperation(operation) => match other {
+            TokenKind::AtomicOperation(wanted) => operation == wanted,
+            _ => false,
+        },
         TokenKind::Keyword(keyword) => match other {
             TokenKind::Keyword(wanted) => keyword == wanted,
             _ => false,
