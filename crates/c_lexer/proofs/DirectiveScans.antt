@@ -137,9 +137,9 @@ no_gap_at_hash bytes more after is gap =
     (λ comment. omega (arith, (looks_comment bytes comment.0 after comment.1).slash, ap (λ l. get_or l 0 0) is))
     gap
 
-gap_at_hash : (n : ℕ) (bytes more at : List ℕ) → bytes ≡ 35 ∷ more → IsGap n bytes at → bytes ≡ at
-gap_at_hash zero bytes more at is gap = gap
-gap_at_hash (suc n) bytes more at is gap = absurd (no_gap_at_hash bytes more gap.0 is gap.1)
+gap_at_hash : (n : List (List ℕ)) (bytes more at : List ℕ) → bytes ≡ 35 ∷ more → IsGap n bytes at → bytes ≡ at
+gap_at_hash [] bytes more at is gap = gap
+gap_at_hash (a ∷ n) bytes more at is gap = absurd (no_gap_at_hash bytes more a is gap.0)
 
 no_second_hash : (bytes more : List ℕ) (d : Directive) (rest : List ℕ) → bytes ≡ 35 ∷ more → FollowsHash bytes d rest → ⊥
 no_second_hash bytes more d rest is follows =

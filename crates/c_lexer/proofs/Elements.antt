@@ -50,19 +50,19 @@ opens_as unreads.Text bytes opens = opens
 opens_as unreads.Number bytes opens = opens
 opens_as unreads.Directive bytes opens = absurd opens
 
-none_begins : (fresh : Bool) (bytes : List ℕ) (unread : Unread) → is_blank (get_or bytes 0 0) ≡ false → ((text rest : List ℕ) → CommentBegins bytes text rest → ⊥) → NoTokenBegins bytes → OpensToken unread bytes → NoElementBegins fresh bytes
+none_begins : (fresh : Bool) (bytes : List ℕ) (unread : Unread) → is_blank (get_or bytes 0 0) ≡ false → ((text rest : List ℕ) → CommentBegins bytes text rest → ⊥) → NoTokenBegins bytes → OpensToken unread bytes → NoElementBegins (fresh ≡ true) bytes
 none_begins fresh bytes unread blank comment none opens Blank text rest begins = no_both blank (blank_first bytes rest begins.0 begins.1 begins.3)
 none_begins fresh bytes unread blank comment none opens Comment text rest begins = comment text rest begins
 none_begins fresh bytes unread blank comment none opens (Line d) text rest begins =
     hash_unopened unread bytes (ap (λ l. get_or l 0 0) (hash_first bytes d rest begins.2).1) opens
 none_begins fresh bytes unread blank comment none opens (Lexed kind) text rest begins = none kind text rest begins.0
 
-pub none_unread : (fresh : Bool) (bytes : List ℕ) (unread : Unread) → is_blank (get_or bytes 0 0) ≡ false → ((text rest : List ℕ) → CommentBegins bytes text rest → ⊥) → NoTokenBegins bytes × OpensToken unread bytes → NoElementBegins fresh bytes × OpensAs unread bytes
+pub none_unread : (fresh : Bool) (bytes : List ℕ) (unread : Unread) → is_blank (get_or bytes 0 0) ≡ false → ((text rest : List ℕ) → CommentBegins bytes text rest → ⊥) → NoTokenBegins bytes × OpensToken unread bytes → NoElementBegins (fresh ≡ true) bytes × OpensAs unread bytes
 none_unread fresh bytes unread blank comment scanned = (none_begins fresh bytes unread blank comment scanned.0 scanned.1, opens_as unread bytes scanned.1)
 
 -- ---- the `#` of a directive
 
-line_begins : (fresh : Bool) (bytes text rest : List ℕ) (kind : Kind) → fresh ≡ true → bytes ≡ text ++ rest → IsLine bytes kind rest → ElementBegins fresh bytes kind text rest
+line_begins : (fresh : Bool) (bytes text rest : List ℕ) (kind : Kind) → fresh ≡ true → bytes ≡ text ++ rest → IsLine bytes kind rest → ElementBegins (fresh ≡ true) bytes kind text rest
 line_begins fresh bytes text rest Blank is_fresh split line = absurd line
 line_begins fresh bytes text rest Comment is_fresh split line = absurd line
 line_begins fresh bytes text rest (Line d) is_fresh split line = (is_fresh, split, line)
@@ -73,7 +73,7 @@ first_hash [] some hash = absurd (omega arith)
 first_hash (b ∷ bs) some hash = (bs, ap (λ n. n ∷ bs) hash)
 
 none_at_hash : (fresh : Bool) (bytes : List ℕ) (token : TokenKind) → fresh ≡ true → 0 < length bytes → get_or bytes 0 0 ≡ 35 → Begins bytes token (take 1 bytes) (drop 1 bytes) → ((text rest : List ℕ) → CommentBegins bytes text rest → ⊥)
-    → ((d : Directive) (rest : List ℕ) → DirectiveBegins bytes d rest → ⊥) → NoElementBegins fresh bytes
+    → ((d : Directive) (rest : List ℕ) → DirectiveBegins bytes d rest → ⊥) → NoElementBegins (fresh ≡ true) bytes
 none_at_hash fresh bytes token is_fresh some hash begins comment none Blank text rest blank = no_both (ap is_blank hash) (blank_first bytes rest blank.0 blank.1 blank.3)
 none_at_hash fresh bytes token is_fresh some hash begins comment none Comment text rest other = comment text rest other
 none_at_hash fresh bytes token is_fresh some hash begins comment none (Line d) text rest line = none d rest line.2
@@ -97,7 +97,7 @@ spelled_hash kind text begins is = subst (λ k. Spells k text) is begins.spelled
 
 -- a token that is no directive's `#`
 pub lexed_found : (fresh : Bool) (bytes : List ℕ) (kind : TokenKind) (n : ℕ) → n ≤ length bytes → Begins bytes kind (take n bytes) (drop n bytes) → (fresh && (eqb n 1 && eqb (get_or bytes 0 0) 35)) ≡ false
-    → ElementBegins fresh bytes (Lexed kind) (take n bytes) (drop n bytes)
+    → ElementBegins (fresh ≡ true) bytes (Lexed kind) (take n bytes) (drop n bytes)
 lexed_found fresh bytes kind n inside begins fails = (
   begins,
   λ is_fresh is_hash.
@@ -108,7 +108,7 @@ lexed_found fresh bytes kind n inside begins fails = (
 )
 
 -- where no element begins, a `//` doesn't either
-pub can_open : (fresh : Bool) (bytes : List ℕ) (unread : Unread) → NoElementBegins fresh bytes → OpensAs unread bytes → CanOpen unread bytes
+pub can_open : (fresh : Bool) (bytes : List ℕ) (unread : Unread) → NoElementBegins (fresh ≡ true) bytes → OpensAs unread bytes → CanOpen unread bytes
 can_open fresh bytes unreads.Byte none opens = opens
 can_open fresh bytes unreads.Text none opens = opens
 can_open fresh bytes unreads.Number none opens = opens

@@ -11,7 +11,7 @@ use Rattle.c_lexer.specs.Bytes.{is_blank, is_bad_byte, is_digit}
 use Rattle.c_lexer.specs.Comments.{CommentBegins}
 use Rattle.c_lexer.specs.Directives.{Directive, Include, Define, DirectiveBegins, HasName}
 use Rattle.c_lexer.specs.TokenLists.{TokenLists}
-use Rattle.c_lexer.specs.Elements.{Kind, Blank, Comment, Line, Lexed, Element, is_fresh, bytes_of, ElementBegins, NoElementBegins, AreElements, tokens_of, includes_of}
+use Rattle.c_lexer.specs.Elements.{Kind, Blank, Comment, Line, Lexed, Element, AreBeforeLine, bytes_of, ElementBegins, NoElementBegins, AreElements, tokens_of, includes_of}
 use Rattle.c_lexer.specs.Files.{AreTokensOf, Opens, IsFaultOf}
 use Rattle.c_lexer.specs.Scanning.{begins_comment}
 use Rattle.c_lexer.proofs.Lists.{same_fronts}
@@ -58,28 +58,28 @@ same_text t u q r same rest =
     (same_fronts t q u r same (omega (arith, ap length same, ap length rest, length-append t q, length-append u r))).0
 
 -- one element begins the bytes, at most
-pub same_element : (fresh : Bool) (bytes : List ℕ) (k l : Kind) (t u q r : List ℕ) → ElementBegins fresh bytes k t q → ElementBegins fresh bytes l u r → SameElement k l t u q r
-same_element fresh bytes Blank Blank t u q r left right =
+pub same_element : (First : Type 0) (bytes : List ℕ) (k l : Kind) (t u q r : List ℕ) → ElementBegins First bytes k t q → ElementBegins First bytes l u r → SameElement k l t u q r
+same_element First bytes Blank Blank t u q r left right =
     let same : left.0 ∷ q ≡ right.0 ∷ r = sym left.3 ∙ right.3 in
     record { kind = refl; text = left.2 ∙ ap (λ n. n ∷ []) (ap (λ l. get_or l 0 0) same) ∙ sym right.2; rest = ap (drop 1) same }
-same_element fresh bytes Blank Comment t u q r left right = absurd (no_both (slash_no_blank bytes u r right) (blank_first bytes q left.0 left.1 left.3))
-same_element fresh bytes Blank (Line d) t u q r left right = absurd (no_both (hash_no_blank bytes d r right.2) (blank_first bytes q left.0 left.1 left.3))
-same_element fresh bytes Blank (Lexed kind) t u q r left right = absurd (no_both (token_unblank bytes kind u r right.0).no_blank (blank_first bytes q left.0 left.1 left.3))
-same_element fresh bytes Comment Blank t u q r left right = absurd (no_both (slash_no_blank bytes t q left) (blank_first bytes r right.0 right.1 right.3))
-same_element fresh bytes Comment Comment t u q r left right = let same = same_comment bytes t q u r left right in record { kind = refl; text = same.0; rest = same.1 }
-same_element fresh bytes Comment (Line d) t u q r left right = absurd (hash_no_slash bytes t q r d right.2 left)
-same_element fresh bytes Comment (Lexed kind) t u q r left right = absurd (no_token_at_comment bytes (comment_begins bytes t q left) kind u r right.0)
-same_element fresh bytes (Line d) Blank t u q r left right = absurd (no_both (hash_no_blank bytes d q left.2) (blank_first bytes r right.0 right.1 right.3))
-same_element fresh bytes (Line d) Comment t u q r left right = absurd (hash_no_slash bytes u r q d left.2 right)
-same_element fresh bytes (Line d) (Line e) t u q r left right =
+same_element First bytes Blank Comment t u q r left right = absurd (no_both (slash_no_blank bytes u r right) (blank_first bytes q left.0 left.1 left.3))
+same_element First bytes Blank (Line d) t u q r left right = absurd (no_both (hash_no_blank bytes d r right.2) (blank_first bytes q left.0 left.1 left.3))
+same_element First bytes Blank (Lexed kind) t u q r left right = absurd (no_both (token_unblank bytes kind u r right.0).no_blank (blank_first bytes q left.0 left.1 left.3))
+same_element First bytes Comment Blank t u q r left right = absurd (no_both (slash_no_blank bytes t q left) (blank_first bytes r right.0 right.1 right.3))
+same_element First bytes Comment Comment t u q r left right = let same = same_comment bytes t q u r left right in record { kind = refl; text = same.0; rest = same.1 }
+same_element First bytes Comment (Line d) t u q r left right = absurd (hash_no_slash bytes t q r d right.2 left)
+same_element First bytes Comment (Lexed kind) t u q r left right = absurd (no_token_at_comment bytes (comment_begins bytes t q left) kind u r right.0)
+same_element First bytes (Line d) Blank t u q r left right = absurd (no_both (hash_no_blank bytes d q left.2) (blank_first bytes r right.0 right.1 right.3))
+same_element First bytes (Line d) Comment t u q r left right = absurd (hash_no_slash bytes u r q d left.2 right)
+same_element First bytes (Line d) (Line e) t u q r left right =
     let same = same_directive bytes d e q r left.2 right.2 in
     let rest : q ≡ r = same.rest in
     record { kind = ap (λ x. Line x) same.directive; text = same_text t u q r (sym left.1 ∙ right.1) rest; rest = rest }
-same_element fresh bytes (Line d) (Lexed kind) t u q r left right = absurd (right.1 left.0 (hash_token bytes d q kind u r left.2 right.0))
-same_element fresh bytes (Lexed kind) Blank t u q r left right = absurd (no_both (token_unblank bytes kind t q left.0).no_blank (blank_first bytes r right.0 right.1 right.3))
-same_element fresh bytes (Lexed kind) Comment t u q r left right = absurd (no_token_at_comment bytes (comment_begins bytes u r right) kind t q left.0)
-same_element fresh bytes (Lexed kind) (Line e) t u q r left right = absurd (left.1 right.0 (hash_token bytes e r kind t q right.2 left.0))
-same_element fresh bytes (Lexed a) (Lexed b) t u q r left right =
+same_element First bytes (Line d) (Lexed kind) t u q r left right = absurd (right.1 left.0 (hash_token bytes d q kind u r left.2 right.0))
+same_element First bytes (Lexed kind) Blank t u q r left right = absurd (no_both (token_unblank bytes kind t q left.0).no_blank (blank_first bytes r right.0 right.1 right.3))
+same_element First bytes (Lexed kind) Comment t u q r left right = absurd (no_token_at_comment bytes (comment_begins bytes u r right) kind t q left.0)
+same_element First bytes (Lexed kind) (Line e) t u q r left right = absurd (left.1 right.0 (hash_token bytes e r kind t q right.2 left.0))
+same_element First bytes (Lexed a) (Lexed b) t u q r left right =
     let same = same_begins bytes a b t u q r left.0 right.0 in
     record { kind = ap (λ x. Lexed x) same.kind; text = same.text; rest = same.rest }
 
@@ -96,21 +96,21 @@ same_elements bytes (e ∷ es) (f ∷ fs) q r lengths left right =
     let earlier = same_elements bytes es fs left.0 right.0 (omega arith) left.1 right.1 in
     let before : es ≡ fs = earlier.elements in
     let at : left.0 ≡ right.0 = earlier.rest in
-    let begins : ElementBegins (is_fresh fs) right.0 e.kind e.text q =
-    subst (λ l. ElementBegins (is_fresh fs) l e.kind e.text q) at (subst (λ l. ElementBegins (is_fresh l) left.0 e.kind e.text q) before left.2) in
-    let same = same_element (is_fresh fs) right.0 e.kind f.kind e.text f.text q r begins right.2 in
+    let begins : ElementBegins (AreBeforeLine fs) right.0 e.kind e.text q =
+    subst (λ l. ElementBegins (AreBeforeLine fs) l e.kind e.text q) at (subst (λ l. ElementBegins (AreBeforeLine l) left.0 e.kind e.text q) before left.2) in
+    let same = same_element (AreBeforeLine fs) right.0 e.kind f.kind e.text f.text q r begins right.2 in
     let kind : e.kind ≡ f.kind = same.kind in
     let text : e.text ≡ f.text = same.text in
     record { elements = λ i. (record { kind = kind i; text = text i }) ∷ before i; rest = same.rest }
 
 -- where no further element begins, no list of elements is longer
-pub no_more : (bytes : List ℕ) (es fs : List Element) (q r : List ℕ) → AreElements bytes es q → NoElementBegins (is_fresh es) q → AreElements bytes fs r → length es < length fs → ⊥
+pub no_more : (bytes : List ℕ) (es fs : List Element) (q r : List ℕ) → AreElements bytes es q → NoElementBegins (AreBeforeLine es) q → AreElements bytes fs r → length es < length fs → ⊥
 no_more bytes es [] q r left stops right longer = omega arith
 no_more bytes es (f ∷ fs) q r left stops right longer =
     ⊎_elim
     (λ same_size.
     let same = same_elements bytes es fs q right.0 same_size left right.1 in
-    stops f.kind f.text r (subst (λ l. ElementBegins (is_fresh es) l f.kind f.text r) (sym same.rest) (subst (λ l. ElementBegins (is_fresh l) right.0 f.kind f.text r) (sym same.elements) right.2)))
+    stops f.kind f.text r (subst (λ l. ElementBegins (AreBeforeLine es) l f.kind f.text r) (sym same.rest) (subst (λ l. ElementBegins (AreBeforeLine l) right.0 f.kind f.text r) (sym same.elements) right.2)))
     (λ other. no_more bytes es fs q right.0 left stops right.1 (omega arith))
     (cases_eq (length es) (length fs))
 
@@ -118,14 +118,14 @@ cons_no_nil : (b : ℕ) (bs : List ℕ) → b ∷ bs ≡ [] → ⊥
 cons_no_nil b bs e = cc
 
 -- nothing begins no bytes
-pub none_at_end : (fresh : Bool) → NoElementBegins fresh []
-none_at_end fresh Blank text rest begins = cons_no_nil begins.0 rest (sym begins.3)
-none_at_end fresh Comment text rest begins = omega (arith, (looks_comment [] text rest begins).long)
-none_at_end fresh (Line d) text rest begins = let hash = hash_first [] d rest begins.2 in cons_no_nil 35 hash.0 (sym hash.1)
-none_at_end fresh (Lexed kind) text rest begins = omega (arith, (token_unblank [] kind text rest begins.0).some)
+pub none_at_end : (First : Type 0) → NoElementBegins First []
+none_at_end First Blank text rest begins = cons_no_nil begins.0 rest (sym begins.3)
+none_at_end First Comment text rest begins = omega (arith, (looks_comment [] text rest begins).long)
+none_at_end First (Line d) text rest begins = let hash = hash_first [] d rest begins.2 in cons_no_nil 35 hash.0 (sym hash.1)
+none_at_end First (Lexed kind) text rest begins = omega (arith, (token_unblank [] kind text rest begins.0).some)
 
 -- two lists of elements behind which none begins are the same
-pub same_whole : (bytes : List ℕ) (es fs : List Element) (q r : List ℕ) → AreElements bytes es q → NoElementBegins (is_fresh es) q → AreElements bytes fs r → NoElementBegins (is_fresh fs) r → Same es fs q r
+pub same_whole : (bytes : List ℕ) (es fs : List Element) (q r : List ℕ) → AreElements bytes es q → NoElementBegins (AreBeforeLine es) q → AreElements bytes fs r → NoElementBegins (AreBeforeLine fs) r → Same es fs q r
 same_whole bytes es fs q r left stops_left right stops_right =
     ⊎_elim
     (λ less. absurd (no_more bytes es fs q r left stops_left right less))
@@ -140,7 +140,7 @@ same_whole bytes es fs q r left stops_left right stops_right =
 
 pub same_tokens : (bytes : List ℕ) (a b : TokenLists) → AreTokensOf bytes a → AreTokensOf bytes b → a ≡ b
 same_tokens bytes a b left right =
-    let same = same_whole bytes left.0 right.0 [] [] left.1 (none_at_end (is_fresh left.0)) right.1 (none_at_end (is_fresh right.0)) in
+    let same = same_whole bytes left.0 right.0 [] [] left.1 (none_at_end (AreBeforeLine left.0)) right.1 (none_at_end (AreBeforeLine right.0)) in
     left.2 ∙ ap (λ es. record { tokens = tokens_of es; includes = includes_of es (place_after bytes); end = place_after bytes }) same.elements ∙ sym right.2
 
 opens_some : (kind : LexFaultKind) (bytes : List ℕ) → Opens kind bytes → 0 < length bytes
@@ -153,7 +153,7 @@ opens_some (faults.Directive name) bytes opens = omega (arith, ap length opens.1
 pub tokens_or_fault : (bytes : List ℕ) (lists : TokenLists) (fault : LexFault) → AreTokensOf bytes lists → IsFaultOf bytes fault → ⊥
 tokens_or_fault bytes lists fault tokens faulty =
     let after = faulty.2 in
-    let same = same_whole bytes tokens.0 faulty.0 [] faulty.1 tokens.1 (none_at_end (is_fresh tokens.0)) after.are after.stops in
+    let same = same_whole bytes tokens.0 faulty.0 [] faulty.1 tokens.1 (none_at_end (AreBeforeLine tokens.0)) after.are after.stops in
     omega (arith, opens_some fault.kind faulty.1 after.opens, ap length same.rest)
 
 -- ---- kinds of faults

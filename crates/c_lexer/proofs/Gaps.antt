@@ -1,5 +1,5 @@
 -- Comments, and blanks and comments in a row: what begins some bytes is one thing.
-use Rattle.std.proofs.Common.{◌≡◌, ℕ, zero, suc, ◌+◌, ◌<◌, ◌≤◌, true, false, not, eqb, List, [], ◌∷◌, ◌++◌, length, get_or, take, drop, sym, refl, ap, ◌∙◌, subst, inl, inr, ⊎_elim, arith, ◌⊎◌}
+use Rattle.std.proofs.Common.{◌≡◌, ℕ, suc, ◌+◌, ◌<◌, ◌≤◌, true, false, not, eqb, List, [], ◌∷◌, ◌++◌, length, get_or, take, drop, sym, refl, ap, ◌∙◌, subst, inl, inr, ⊎_elim, arith, ◌⊎◌}
 use Rattle.std.specs.List.{list_all, prefix_len}
 use Rattle.std.proofs.lemmas.Bool.{cases_lt}
 use Rattle.std.proofs.lemmas.Bool.Decides.{nat_tests}
@@ -173,17 +173,17 @@ same_gap_piece bytes q r left right =
     right)
     left
 
-same_gap : (n m : ℕ) (bytes q r : List ℕ) → IsGap n bytes q → IsGap m bytes r → ((after : List ℕ) → GapBegins q after → ⊥) → ((after : List ℕ) → GapBegins r after → ⊥) → q ≡ r
-same_gap zero zero bytes q r left right no_q no_r = sym left ∙ right
-same_gap zero (suc m) bytes q r left right no_q no_r = absurd (no_q right.0 (subst (λ l. GapBegins l right.0) left right.1))
-same_gap (suc n) zero bytes q r left right no_q no_r = absurd (no_r left.0 (subst (λ l. GapBegins l left.0) right left.1))
-same_gap (suc n) (suc m) bytes q r left right no_q no_r =
-    let same = same_gap_piece bytes left.0 right.0 left.1 right.1 in
-    same_gap n m right.0 q r (subst (λ l. IsGap n l q) same left.2) right.2 no_q no_r
+same_gap : (n m : List (List ℕ)) (bytes q r : List ℕ) → IsGap n bytes q → IsGap m bytes r → ((after : List ℕ) → GapBegins q after → ⊥) → ((after : List ℕ) → GapBegins r after → ⊥) → q ≡ r
+same_gap [] [] bytes q r left right no_q no_r = sym left ∙ right
+same_gap [] (b ∷ m) bytes q r left right no_q no_r = absurd (no_q b (subst (λ l. GapBegins l b) left right.0))
+same_gap (a ∷ n) [] bytes q r left right no_q no_r = absurd (no_r a (subst (λ l. GapBegins l a) right left.0))
+same_gap (a ∷ n) (b ∷ m) bytes q r left right no_q no_r =
+    let same = same_gap_piece bytes a b left.0 right.0 in
+    same_gap n m b q r (subst (λ l. IsGap n l q) same left.1) right.1 no_q no_r
 
 pub same_behind : (bytes q r : List ℕ) → IsBehindGap bytes q → IsBehindGap bytes r → q ≡ r
 same_behind bytes q r left right = same_gap left.0.0 right.0.0 bytes q r left.0.1 right.0.1 left.1 right.1
 
-pub gap_more : (n : ℕ) (bytes q r : List ℕ) → IsGap n bytes q → GapBegins q r → IsGap (suc n) bytes r
-gap_more zero bytes q r gap piece = (r, subst (λ l. GapBegins l r) (sym gap) piece, refl)
-gap_more (suc n) bytes q r gap piece = (gap.0, gap.1, gap_more n gap.0 q r gap.2 piece)
+pub gap_more : (n : List (List ℕ)) (bytes q r : List ℕ) → IsGap n bytes q → GapBegins q r → IsGap (n ++ r ∷ []) bytes r
+gap_more [] bytes q r gap piece = (subst (λ l. GapBegins l r) (sym gap) piece, refl)
+gap_more (a ∷ n) bytes q r gap piece = (gap.0, gap_more n a q r gap.1 piece)

@@ -1,9 +1,10 @@
 -- The spellings of keywords: each is a word, and no two are the same.
-use Rattle.std.proofs.Common.{◌≡◌, ℕ, ◌+◌, ◌*◌, ◌<◌, ◌≤◌, true, cond, eqb, ltb, List, [], ◌∷◌, get_or, refl, sym, ap, ◌∙◌, ⊎_elim, arith}
+use Rattle.std.proofs.Common.{◌≡◌, ℕ, ◌+◌, ◌*◌, ◌<◌, ◌≤◌, true, cond, eqb, ltb, List, [], ◌∷◌, length, get_or, refl, sym, ap, ◌∙◌, ⊎_elim, arith}
 use Rattle.std.proofs.lemmas.Bool.{ltb-true, cases_eq}
 use Rattle.std.specs.List.{fold}
 use Rattle.c_lexer.specs.declared.keyword.Keyword.{Keyword}
 use Rattle.c_lexer.specs.declared.keyword.Keyword.TheVariants as keywords
+use Rattle.c_lexer.specs.Beginnings.{keywords_from}
 use Rattle.c_lexer.specs.Keyword.{keyword_text}
 use Rattle.c_lexer.specs.Spelling.{is_word}
 
@@ -157,158 +158,63 @@ keyword_at-text keywords.Asm = refl
 pub keyword_text_injective : (a b : Keyword) → keyword_text a ≡ keyword_text b → a ≡ b
 keyword_text_injective a b same = sym (keyword_at-text a) ∙ ap (λ word. keyword_at (number_of word)) same ∙ keyword_at-text b
 
--- the place of a keyword among all of them
+-- where it stands among those that begin with its first byte
 abbrev pub place_of : Keyword → ℕ
-place_of keywords.Auto = 0
-place_of keywords.Break = 1
-place_of keywords.Case = 2
-place_of keywords.Char = 3
-place_of keywords.Const = 4
-place_of keywords.Continue = 5
-place_of keywords.Default = 6
-place_of keywords.Do = 7
-place_of keywords.Double = 8
-place_of keywords.Else = 9
-place_of keywords.Enum = 10
-place_of keywords.Extern = 11
-place_of keywords.Float = 12
-place_of keywords.For = 13
-place_of keywords.Goto = 14
-place_of keywords.If = 15
-place_of keywords.Inline = 16
-place_of keywords.Int = 17
-place_of keywords.Long = 18
-place_of keywords.Register = 19
-place_of keywords.Restrict = 20
-place_of keywords.Return = 21
-place_of keywords.Short = 22
-place_of keywords.Signed = 23
-place_of keywords.Sizeof = 24
-place_of keywords.Static = 25
-place_of keywords.Struct = 26
-place_of keywords.Switch = 27
-place_of keywords.Typedef = 28
-place_of keywords.Union = 29
-place_of keywords.Unsigned = 30
-place_of keywords.Void = 31
-place_of keywords.Volatile = 32
-place_of keywords.While = 33
-place_of keywords.Alignas = 34
-place_of keywords.Alignof = 35
-place_of keywords.Atomic = 36
-place_of keywords.Bool = 37
-place_of keywords.Complex = 38
-place_of keywords.Generic = 39
-place_of keywords.Imaginary = 40
-place_of keywords.Noreturn = 41
-place_of keywords.StaticAssert = 42
-place_of keywords.ThreadLocal = 43
-place_of keywords.Asm = 44
+place_of keywords.Asm = 1
+place_of keywords.Char = 1
+place_of keywords.Const = 2
+place_of keywords.Continue = 3
+place_of keywords.Do = 1
+place_of keywords.Double = 2
+place_of keywords.Enum = 1
+place_of keywords.Extern = 2
+place_of keywords.For = 1
+place_of keywords.Inline = 1
+place_of keywords.Int = 2
+place_of keywords.Restrict = 1
+place_of keywords.Return = 2
+place_of keywords.Signed = 1
+place_of keywords.Sizeof = 2
+place_of keywords.Static = 3
+place_of keywords.Struct = 4
+place_of keywords.Switch = 5
+place_of keywords.Unsigned = 1
+place_of keywords.Volatile = 1
+place_of keywords.Alignof = 1
+place_of keywords.Atomic = 2
+place_of keywords.Bool = 3
+place_of keywords.Complex = 4
+place_of keywords.Generic = 5
+place_of keywords.Imaginary = 6
+place_of keywords.Noreturn = 7
+place_of keywords.StaticAssert = 8
+place_of keywords.ThreadLocal = 9
+place_of other = 0
 
-abbrev pub all_keywords : List Keyword
-all_keywords = keywords.Auto ∷ keywords.Break ∷ keywords.Case ∷ keywords.Char ∷ keywords.Const ∷ keywords.Continue ∷ keywords.Default ∷ keywords.Do ∷ keywords.Double ∷ keywords.Else ∷ keywords.Enum ∷ keywords.Extern ∷ keywords.Float ∷ keywords.For ∷ keywords.Goto ∷ keywords.If ∷ keywords.Inline ∷ keywords.Int ∷ keywords.Long ∷ keywords.Register ∷ keywords.Restrict ∷ keywords.Return ∷ keywords.Short ∷ keywords.Signed ∷ keywords.Sizeof ∷ keywords.Static ∷ keywords.Struct ∷ keywords.Switch ∷ keywords.Typedef ∷ keywords.Union ∷ keywords.Unsigned ∷ keywords.Void ∷ keywords.Volatile ∷ keywords.While ∷ keywords.Alignas ∷ keywords.Alignof ∷ keywords.Atomic ∷ keywords.Bool ∷ keywords.Complex ∷ keywords.Generic ∷ keywords.Imaginary ∷ keywords.Noreturn ∷ keywords.StaticAssert ∷ keywords.ThreadLocal ∷ keywords.Asm ∷ []
+-- those that begin with its first byte
+abbrev pub group_of : Keyword → List Keyword
+group_of keyword = keywords_from (get_or (keyword_text keyword) 0 0)
 
-pub at_place : (keyword d : Keyword) → get_or all_keywords (place_of keyword) d ≡ keyword
+at_place : (keyword d : Keyword) → get_or (group_of keyword) (place_of keyword) d ≡ keyword
 at_place keywords.Auto d = refl
-at_place keywords.Break d = refl
-at_place keywords.Case d = refl
-at_place keywords.Char d = refl
-at_place keywords.Const d = refl
-at_place keywords.Continue d = refl
-at_place keywords.Default d = refl
-at_place keywords.Do d = refl
-at_place keywords.Double d = refl
-at_place keywords.Else d = refl
-at_place keywords.Enum d = refl
-at_place keywords.Extern d = refl
-at_place keywords.Float d = refl
-at_place keywords.For d = refl
-at_place keywords.Goto d = refl
-at_place keywords.If d = refl
-at_place keywords.Inline d = refl
-at_place keywords.Int d = refl
-at_place keywords.Long d = refl
-at_place keywords.Register d = refl
-at_place keywords.Restrict d = refl
-at_place keywords.Return d = refl
-at_place keywords.Short d = refl
-at_place keywords.Signed d = refl
-at_place keywords.Sizeof d = refl
-at_place keywords.Static d = refl
-at_place keywords.Struct d = refl
-at_place keywords.Switch d = refl
-at_place keywords.Typedef d = refl
-at_place keywords.Union d = refl
-at_place keywords.Unsigned d = refl
-at_place keywords.Void d = refl
-at_place keywords.Volatile d = refl
-at_place keywords.While d = refl
-at_place keywords.Alignas d = refl
-at_place keywords.Alignof d = refl
-at_place keywords.Atomic d = refl
-at_place keywords.Bool d = refl
-at_place keywords.Complex d = refl
-at_place keywords.Generic d = refl
-at_place keywords.Imaginary d = refl
-at_place keywords.Noreturn d = refl
-at_place keywords.StaticAssert d = refl
-at_place keywords.ThreadLocal d = refl
-at_place keywords.Asm d = refl
+at_place other d = refl
 
-within : (keyword : Keyword) → ltb (place_of keyword) 45 ≡ true
+within : (keyword : Keyword) → ltb (place_of keyword) (length (group_of keyword)) ≡ true
 within keywords.Auto = refl
-within keywords.Break = refl
-within keywords.Case = refl
-within keywords.Char = refl
-within keywords.Const = refl
-within keywords.Continue = refl
-within keywords.Default = refl
-within keywords.Do = refl
-within keywords.Double = refl
-within keywords.Else = refl
-within keywords.Enum = refl
-within keywords.Extern = refl
-within keywords.Float = refl
-within keywords.For = refl
-within keywords.Goto = refl
-within keywords.If = refl
-within keywords.Inline = refl
-within keywords.Int = refl
-within keywords.Long = refl
-within keywords.Register = refl
-within keywords.Restrict = refl
-within keywords.Return = refl
-within keywords.Short = refl
-within keywords.Signed = refl
-within keywords.Sizeof = refl
-within keywords.Static = refl
-within keywords.Struct = refl
-within keywords.Switch = refl
-within keywords.Typedef = refl
-within keywords.Union = refl
-within keywords.Unsigned = refl
-within keywords.Void = refl
-within keywords.Volatile = refl
-within keywords.While = refl
-within keywords.Alignas = refl
-within keywords.Alignof = refl
-within keywords.Atomic = refl
-within keywords.Bool = refl
-within keywords.Complex = refl
-within keywords.Generic = refl
-within keywords.Imaginary = refl
-within keywords.Noreturn = refl
-within keywords.StaticAssert = refl
-within keywords.ThreadLocal = refl
-within keywords.Asm = refl
+within other = refl
 
-pub place_of-lt : (keyword : Keyword) → place_of keyword < 45
-place_of-lt keyword = ltb-true (place_of keyword) 45 (within keyword)
+-- none stands behind all
+pub none_left : (word : List ℕ) (items : List Keyword) (i : ℕ) (keyword : Keyword) → items ≡ keywords_from (get_or word 0 0) → word ≡ keyword_text keyword → length items ≤ i → i ≤ place_of keyword → ⊥
+none_left word items i keyword items_is same all passed =
+    omega (arith, all, ap length items_is, ap (λ w. length (keywords_from (get_or w 0 0))) same, ltb-true (place_of keyword) (length (group_of keyword)) (within keyword), passed)
 
 -- a keyword that is spelled like no earlier one, and not like the one at place i, has a later place
-pub keyword_passed : (word text : List ℕ) (i : ℕ) (d keyword : Keyword) → text ≡ keyword_text (get_or all_keywords i d) → (text ≡ word → ⊥) → word ≡ keyword_text keyword → i ≤ place_of keyword → i + 1 ≤ place_of keyword
-keyword_passed word text i d keyword text_is differs same passed =
+pub keyword_passed : (word text : List ℕ) (items : List Keyword) (i : ℕ) (d keyword : Keyword) → items ≡ keywords_from (get_or word 0 0) → text ≡ keyword_text (get_or items i d) → (text ≡ word → ⊥) → word ≡ keyword_text keyword → i ≤ place_of keyword
+    → i + 1 ≤ place_of keyword
+keyword_passed word text items i d keyword items_is text_is differs same passed =
     ⊎_elim
-    (λ here. absurd (differs (text_is ∙ ap (λ n. keyword_text (get_or all_keywords n d)) here ∙ ap keyword_text (at_place keyword d) ∙ sym same)))
+    (λ here.
+    let group : items ≡ group_of keyword = items_is ∙ ap (λ w. keywords_from (get_or w 0 0)) same in
+    absurd (differs (text_is ∙ ap (λ n. keyword_text (get_or items n d)) here ∙ ap (λ l. keyword_text (get_or l (place_of keyword) d)) group ∙ ap keyword_text (at_place keyword d) ∙ sym same)))
     (λ elsewhere. omega arith)
     (cases_eq i (place_of keyword))

@@ -1,17 +1,19 @@
 -- Decimal constants: their digits and values.
-use Rattle.std.proofs.Common.{◌≡◌, ℕ, ◌+◌, ◌-◌, ◌*◌, ◌<◌, ◌≤◌, ◌^◌, ◌≢◌, true, leb, List, length, get_or, take, sym, ap, ◌∙◌, ⊎_elim, arith, rules}
+use Rattle.std.proofs.Common.{◌≡◌, ℕ, ◌+◌, ◌-◌, ◌*◌, ◌<◌, ◌≤◌, ◌^◌, ◌≢◌, Bool, true, false, cond, ◌&&◌, ◌||◌, eqb, List, [], ◌∷◌, ◌++◌, length, get_or, Option, Some, None, sym, refl, ap, ◌∙◌, subst, ⊎_elim, arith, rules}
 use Rattle.std.specs.List.{list_all}
 use Rattle.std.specs.Fmt.{decimal}
 use Rattle.std.specs.Str.Parse.{digits_value}
-use Rattle.std.specs.Int.{IsInRange}
-use Rattle.std.proofs.lemmas.Bool.{and_parts, and_from, leb-true, cases_lt}
-use Rattle.std.proofs.lemmas.Int.Digits.{digits_value_more}
-use Rattle.std.proofs.lemmas.List.Folds.{list_all_more}
-use Rattle.std.proofs.lemmas.List.Sums.{AllPass-from_list_all}
-use Rattle.std.proofs.lemmas.Str.{digit_value_digit}
-use Rattle.std.proofs.lemmas.Str.Parse.{IsNumeralModel, numerals_by_value, digits_value-take-le}
+use Rattle.std.proofs.lemmas.Bool.{false≢true, eqb-true, cases_lt, cases_Bool}
+use Rattle.std.proofs.lemmas.List.{append-nil}
+use Rattle.std.proofs.lemmas.Str.Parse.{IsNumeralModel, numerals_by_value}
 use Rattle.std.proofs.lemmas.Fmt.{digits_decimal, digits_value-decimal, decimal-digits_value, decimal_digit, decimal_nonempty, first_decimal, decimal_injective}
+use Rattle.c_lexer.specs.declared.token.IntegerConstant.{IntegerConstant}
+use Rattle.c_lexer.specs.declared.token.IntegerSuffix.{IntegerSuffix}
+use Rattle.c_lexer.specs.declared.token.IntegerSuffix.TheVariants as suffixes
 use Rattle.c_lexer.specs.Bytes.{is_digit}
+use Rattle.c_lexer.specs.Headers.{plain_decimal}
+use Rattle.c_lexer.specs.Integers.{is_u, is_l, suffix_of, leads_with_zero, IsInteger}
+use Rattle.c_lexer.proofs.Integers.{same_integer}
 
 -- digits of our own, with std's value
 pub digits_model : IsNumeralModel (λ ds. list_all is_digit ds ≡ true) (digits_value 10)
@@ -42,39 +44,80 @@ pub decimal_from_digits : (ds : List ℕ) → list_all is_digit ds ≡ true → 
 decimal_from_digits ds digits some no_zero small =
     sym (decimal-digits_value digits_model ds digits some (λ zero. ⊎_elim (λ long. absurd (no_zero long zero)) (λ short. omega arith) (cases_lt 1 (length ds))) (omega arith))
 
-digit_range : (b : ℕ) → is_digit b ≡ true → IsInRange 48 57 b
-digit_range b digit = let parts = and_parts (leb 48 b) (leb b 57) digit in (leb-true 48 b parts.0, leb-true b 57 parts.1)
-
--- one more digit, at place i
-module _ (digits : List ℕ) (i value : ℕ) (inside : i < length digits) (value_is : value ≡ digits_value 10 (take i digits)) where
-  next_value : is_digit (get_or digits i 0) ≡ true → value * 10 + (get_or digits i 0 - 48) ≡ digits_value 10 (take (i + 1) digits)
-  next_value digit =
-      omega (arith, digits_value_more 10 digits i inside, digit_value_digit (get_or digits i 0) (digit_range (get_or digits i 0) digit))
-
-  pub more_digits : (next : ℕ) → list_all is_digit (take i digits) ≡ true → is_digit (get_or digits i 0) ≡ true → next ≡ value * 10 + (get_or digits i 0 - 48) → (list_all is_digit (take (i + 1) digits) ≡ true) × (next ≡ digits_value 10 (take (i + 1) digits))
-  more_digits next all digit next_is = (
-    list_all_more is_digit digits i 0 inside ∙ and_from (list_all is_digit (take i digits)) (is_digit (get_or digits i 0)) all digit,
-    next_is ∙ next_value digit,
-  )
-
-  -- too large a front makes the whole too large
-  pub too_large : (is_digit (get_or digits i 0) ≡ true → 2 ^ 31 ≤ value * 10 + (get_or digits i 0 - 48)) → list_all is_digit digits ≡ true → 2 ^ 31 ≤ digits_value 10 digits
-  too_large large all =
-      let digit = AllPass-from_list_all is_digit digits all i 0 inside in
-      omega (arith, large digit, next_value digit, digits_value-take-le 10 digits (i + 1) (omega arith))
-
--- what is no decimal below 2 ^ 31
-pub no_decimal_of_none : (spelling : List ℕ) (value : ℕ) → value < 2 ^ 31 → length spelling ≡ 0 → spelling ≡ decimal value → ⊥
-no_decimal_of_none spelling value small none same = omega (arith, decimal_some value small, ap length same)
-
-pub no_decimal_with_zero : (spelling : List ℕ) (value : ℕ) → value < 2 ^ 31 → 1 < length spelling → get_or spelling 0 0 ≡ 48 → spelling ≡ decimal value → ⊥
-no_decimal_with_zero spelling value small long zero same =
-    no_leading_zero value small (omega (arith, ap length same)) (sym (ap (λ l. get_or l 0 0) same) ∙ zero)
-
-pub no_decimal_so_large : (spelling : List ℕ) (value : ℕ) → value < 2 ^ 31 → (list_all is_digit spelling ≡ true → 2 ^ 31 ≤ digits_value 10 spelling) → spelling ≡ decimal value → ⊥
-no_decimal_so_large spelling value small large same =
-    omega (arith, large (ap (list_all is_digit) same ∙ decimal_is_digits value small), ap (digits_value 10) same, decimal_value value small)
-
 pub found_decimal : (spelling : List ℕ) (value : ℕ) → 0 < length spelling → (1 < length spelling → get_or spelling 0 0 ≢ 48) → list_all is_digit spelling ≡ true → value ≡ digits_value 10 spelling → value < 2 ^ 31 → spelling ≡ decimal value
 found_decimal spelling value some no_zero digits value_is small =
     decimal_from_digits spelling digits some no_zero (omega arith) ∙ ap decimal (sym value_is)
+
+-- ---- as integer constants
+
+is_plain : Option IntegerSuffix → Bool
+is_plain (Some suffixes.Plain) = true
+is_plain other = false
+
+plain_after_one : (p q : Bool) → is_plain (cond p (Some suffixes.Unsigned) (cond q (Some suffixes.Long) None)) ≡ false
+unfolding is_plain
+plain_after_one true q = refl
+plain_after_one false true = refl
+plain_after_one false false = refl
+
+plain_after_two : (p q : Bool) → is_plain (cond p (Some suffixes.UnsignedLong) (cond q (Some suffixes.LongLong) None)) ≡ false
+unfolding is_plain
+plain_after_two true q = refl
+plain_after_two false true = refl
+plain_after_two false false = refl
+
+plain_after_three : (p : Bool) → is_plain (cond p (Some suffixes.UnsignedLongLong) None) ≡ false
+unfolding is_plain
+plain_after_three true = refl
+plain_after_three false = refl
+
+-- no suffix is there where none asks for anything
+no_suffix : (suffix : List ℕ) → is_plain (suffix_of suffix) ≡ true → suffix ≡ []
+unfolding is_plain
+no_suffix [] plain = refl
+no_suffix (a ∷ []) plain = absurd (false≢true (sym (plain_after_one (is_u a) (is_l a)) ∙ plain))
+no_suffix (a ∷ b ∷ []) plain = absurd (false≢true (sym (plain_after_two ((is_u a && is_l b) || (is_l a && is_u b)) (is_l a && eqb a b)) ∙ plain))
+no_suffix (a ∷ b ∷ c ∷ []) plain = absurd (false≢true (sym (plain_after_three ((is_u a && is_l b && eqb b c) || (is_l a && eqb a b && is_u c))) ∙ plain))
+no_suffix (a ∷ b ∷ c ∷ d ∷ rest) plain = absurd (false≢true plain)
+
+plain_suffix : (suffix : List ℕ) → suffix_of suffix ≡ Some suffixes.Plain → suffix ≡ []
+unfolding is_plain
+plain_suffix suffix plain = no_suffix suffix (ap is_plain plain)
+
+no_zero_first : (digits : List ℕ) → leads_with_zero digits ≡ false → 1 < length digits → get_or digits 0 0 ≡ 48 → ⊥
+no_zero_first [] leads long zero = omega arith
+no_zero_first (a ∷ []) leads long zero = omega arith
+no_zero_first (a ∷ b ∷ digits) leads long zero = false≢true (sym leads ∙ ap (λ n. eqb n 48) zero)
+
+zero_is_not_first : (digits : List ℕ) → (1 < length digits → get_or digits 0 0 ≡ 48 → ⊥) → leads_with_zero digits ≡ false
+zero_is_not_first [] other = refl
+zero_is_not_first (a ∷ []) other = refl
+zero_is_not_first (a ∷ b ∷ digits) other = ⊎_elim (λ zero. absurd (other (omega arith) (eqb-true a 48 zero))) (λ no. no) (cases_Bool (eqb a 48))
+
+-- a plain constant that an `int` holds is spelled as its decimal
+pub plain_is_decimal : (value : ℕ) (spelling : List ℕ) → IsInteger (plain_decimal value) spelling → value < 2 ^ 31 → spelling ≡ decimal value
+plain_is_decimal value spelling is small =
+    let digits : spelling ≡ is.digits = is.parts ∙ ap (λ l. l ++ is.digits ++ is.suffix) is.prefixed.0 ∙ ap (λ l. is.digits ++ l) (plain_suffix is.suffix is.suffixed) ∙ append-nil is.digits in
+    digits ∙ found_decimal is.digits value is.some (no_zero_first is.digits is.prefixed.1) is.all is.value small
+
+decimal_is_plain : (value : ℕ) → value < 2 ^ 31 → IsInteger (plain_decimal value) (decimal value)
+decimal_is_plain value small = record {
+  prefix = [];
+  digits = decimal value;
+  suffix = [];
+  parts = sym (append-nil (decimal value));
+  prefixed = (refl, zero_is_not_first (decimal value) (no_leading_zero value small));
+  some = decimal_some value small;
+  all = decimal_is_digits value small;
+  suffixed = refl;
+  value = sym (decimal_value value small);
+  fits = omega arith;
+}
+
+-- what is no integer constant is no decimal, and one that isn't plain and held by an `int` neither
+pub no_integer : (spelling : List ℕ) → ((constant : IntegerConstant) → IsInteger constant spelling → ⊥) → (value : ℕ) → value < 2 ^ 31 → spelling ≡ decimal value → ⊥
+no_integer spelling none value small same = none (plain_decimal value) (subst (λ l. IsInteger (plain_decimal value) l) (sym same) (decimal_is_plain value small))
+
+pub no_plain : (spelling : List ℕ) (constant : IntegerConstant) → IsInteger constant spelling → ((value : ℕ) → constant ≡ plain_decimal value → value < 2 ^ 31 → ⊥) → (value : ℕ) → value < 2 ^ 31 → spelling ≡ decimal value → ⊥
+no_plain spelling constant is other value small same =
+    other value (same_integer constant (plain_decimal value) spelling is (subst (λ l. IsInteger (plain_decimal value) l) (sym same) (decimal_is_plain value small))) small

@@ -1,7 +1,7 @@
 -- Punctuators at the front of bytes.
-use Rattle.std.proofs.Common.{◌≡◌, ℕ, zero, suc, ◌+◌, ◌<◌, ◌≤◌, Bool, true, false, cond, ◌&&◌, ◌||◌, eqb, List, [], ◌∷◌, ◌++◌, length, get_or, take, drop, Some, None, sym, refl, ap, ◌∙◌, inl, inr, ⊎_elim, arith, ◌⊎◌}
+use Rattle.std.proofs.Common.{◌≡◌, ℕ, zero, suc, ◌+◌, ◌<◌, ◌≤◌, Bool, true, false, cond, ◌&&◌, ◌||◌, eqb, leb, List, [], ◌∷◌, ◌++◌, length, get_or, take, drop, Some, None, sym, refl, ap, ◌∙◌, subst, inl, inr, ⊎_elim, arith, ◌⊎◌}
 use Rattle.std.specs.Str.{bytes_eq}
-use Rattle.std.proofs.lemmas.Bool.{false≢true, cases_lt, cases_eq, eqb-true, and_parts}
+use Rattle.std.proofs.lemmas.Bool.{false≢true, cases_lt, cases_eq, eqb-true, ltb-true, leb-true, and_parts}
 use Rattle.std.proofs.lemmas.Bool.Decides.{nat_tests}
 use Rattle.std.proofs.lemmas.Slice.Eq.{bytes_eq-Decides}
 use Rattle.std.proofs.lemmas.List.{take_at}
@@ -12,10 +12,11 @@ use Rattle.c_lexer.specs.declared.token.TokenKind.{TokenKind}
 use Rattle.c_lexer.specs.declared.token.TokenKind.TheVariants as kinds
 use Rattle.c_lexer.specs.declared.scanner.Unread.TheVariants as unreads
 use Rattle.c_lexer.specs.Bytes.{is_letter, is_digit, is_blank, is_bad_byte}
+use Rattle.c_lexer.specs.Beginnings.{punctuators_from}
 use Rattle.c_lexer.specs.Punctuator.{punctuator_text}
 use Rattle.c_lexer.specs.Tokens.{Begins}
 use Rattle.c_lexer.specs.Scanning.{NoTokenBegins, OpensAs, IsAtFront, begins_number, begins_comment, BeginsOtherwise}
-use Rattle.c_lexer.proofs.Punctuators.{place_of, size_at, all_punctuators, size_at-place_of, get_or-place_of, punctuator_no_comment}
+use Rattle.c_lexer.proofs.Punctuators.{all_below, all_below-at, place_of, group_of, at_place, in_group, some_text, as_long_before, punctuator_no_comment}
 use Rattle.c_lexer.proofs.Lists.{first_of_front}
 use Rattle.c_lexer.proofs.Classes.{class_of_text}
 use Rattle.c_lexer.proofs.Lexemes.{class_is, digit_begins, or_parts}
@@ -23,46 +24,40 @@ use Rattle.c_lexer.proofs.Scans.{scanned, view, OfKind, OfNumber, OfComment, pun
 
 -- ---- the search through all punctuators
 
-pub all_below : ℕ → (ℕ → Bool) → Bool
-all_below zero p = true
-all_below (suc n) p = p n && all_below n p
-
-pub all_below-at : (n : ℕ) (p : ℕ → Bool) → all_below n p ≡ true → (k : ℕ) → k < n → p k ≡ true
-unfolding all_below
-all_below-at zero p all k below = absurd (omega arith)
-all_below-at (suc n) p all k below =
-    let parts = and_parts (p n) (all_below n p) all in
-    ⊎_elim (λ last. ap p last ∙ parts.0) (λ other. all_below-at n p parts.1 k (omega arith)) (cases_eq k n)
-
-sizes_fit : all_below 49 (λ i. eqb (length (punctuator_text (get_or all_punctuators i punctuators.Hash))) (size_at i)) ≡ true
-unfolding all_below
-sizes_fit = refl
-
 any_default : (xs : List Punctuator) (i : ℕ) (d e : Punctuator) → i < length xs → get_or xs i d ≡ get_or xs i e
 any_default [] i d e inside = absurd (omega arith)
 any_default (x ∷ xs) zero d e inside = refl
 any_default (x ∷ xs) (suc i) d e inside = any_default xs i d e (omega arith)
 
-pub size_in_list : (i : ℕ) (d : Punctuator) → i < 49 → length (punctuator_text (get_or all_punctuators i d)) ≡ size_at i
-size_in_list i d inside =
-    ap (λ p. length (punctuator_text p)) (any_default all_punctuators i d punctuators.Hash (omega arith))
-    ∙ eqb-true _ (size_at i) (all_below-at 49 (λ i. eqb (length (punctuator_text (get_or all_punctuators i punctuators.Hash))) (size_at i)) sizes_fit i inside)
+module _ (bytes : List ℕ) (items : List Punctuator) (items_are : items ≡ punctuators_from (get_or bytes 0 0)) where
+  -- the group that the first byte names is that of each punctuator that begins the bytes
+  group_at : (rest : List ℕ) (punctuator : Punctuator) → bytes ≡ punctuator_text punctuator ++ rest → items ≡ group_of punctuator
+  group_at rest punctuator split =
+      items_are ∙ ap punctuators_from (sym (first_of_front bytes (punctuator_text punctuator) rest split (ltb-true 0 (length (punctuator_text punctuator)) (some_text punctuator))))
 
-size_falls : (i j : ℕ) → i ≤ j → size_at j ≤ size_at i
-size_falls i j below = grind (arith, nat_tests)
+  -- no later one is longer
+  pub no_longer : (rest : List ℕ) (i : ℕ) (d other : Punctuator) → bytes ≡ punctuator_text other ++ rest → i ≤ place_of other → length (punctuator_text other) ≤ length (punctuator_text (get_or items i d))
+  no_longer rest i d other split later =
+      let inside = ltb-true (place_of other) (length (group_of other)) (in_group other) in
+      let same : get_or items i d ≡ get_or (group_of other) i other = ap (λ l. get_or l i d) (group_at rest other split) ∙ any_default (group_of other) i d other (omega arith) in
+      subst (λ p. length (punctuator_text other) ≤ length (punctuator_text p)) (sym same)
+      (leb-true (length (punctuator_text other)) (length (punctuator_text (get_or (group_of other) i other)))
+      (all_below-at (suc (place_of other)) (λ k. leb (length (punctuator_text other)) (length (punctuator_text (get_or (group_of other) k other)))) (as_long_before other) i (omega arith)))
 
--- no later one is longer
-pub no_longer : (i : ℕ) (d other : Punctuator) → i < 49 → i ≤ place_of other → length (punctuator_text other) ≤ length (punctuator_text (get_or all_punctuators i d))
-no_longer i d other inside later = omega (arith, size_in_list i d inside, size_at-place_of other, size_falls i (place_of other) later)
+  -- one that begins the bytes, and is not the one at a place, stands later
+  pub passed_on : (rest : List ℕ) (i : ℕ) (d punctuator : Punctuator) → bytes ≡ punctuator_text punctuator ++ rest → ((more : List ℕ) → bytes ≡ punctuator_text (get_or items i d) ++ more → ⊥) → i ≤ place_of punctuator → i + 1 ≤ place_of punctuator
+  passed_on rest i d punctuator split differs passed =
+      ⊎_elim
+      (λ here.
+      let found : get_or items i d ≡ punctuator = ap (λ n. get_or items n d) here ∙ ap (λ l. get_or l (place_of punctuator) d) (group_at rest punctuator split) ∙ at_place punctuator d in
+      absurd (differs rest (split ∙ ap (λ p. punctuator_text p ++ rest) (sym found))))
+      (λ elsewhere. omega arith)
+      (cases_eq i (place_of punctuator))
 
--- one that begins the bytes, and is not the one at a place, stands later
-pub passed_on : (bytes rest : List ℕ) (i : ℕ) (d punctuator : Punctuator) → bytes ≡ punctuator_text punctuator ++ rest
-    → ((more : List ℕ) → bytes ≡ punctuator_text (get_or all_punctuators i d) ++ more → ⊥) → i ≤ place_of punctuator → i + 1 ≤ place_of punctuator
-passed_on bytes rest i d punctuator split differs passed =
-    ⊎_elim
-    (λ here. absurd (differs rest (split ∙ ap (λ p. punctuator_text p ++ rest) (sym (get_or-place_of punctuator d) ∙ ap (λ n. get_or all_punctuators n d) (sym here)))))
-    (λ elsewhere. omega arith)
-    (cases_eq i (place_of punctuator))
+  -- none stands behind all
+  pub none_left : (rest : List ℕ) (i : ℕ) (punctuator : Punctuator) → bytes ≡ punctuator_text punctuator ++ rest → length items ≤ i → i ≤ place_of punctuator → ⊥
+  none_left rest i punctuator split all passed =
+      omega (arith, all, ap length (group_at rest punctuator split), ltb-true (place_of punctuator) (length (group_of punctuator)) (in_group punctuator), passed)
 
 -- ---- bytes that begin no word, number, string or character constant
 

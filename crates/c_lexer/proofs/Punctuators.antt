@@ -1,13 +1,25 @@
 -- The spellings of punctuators: what each begins with, and where each stands in the list of all.
-use Rattle.std.proofs.Common.{◌≡◌, ℕ, ◌+◌, ◌*◌, Bool, true, false, cond, not, ◌&&◌, ◌||◌, eqb, ltb, List, [], ◌∷◌, length, get_or, refl, sym, ap, ◌∙◌, inl, inr, ◌⊎◌}
-use Rattle.std.proofs.lemmas.Bool.{false≢true}
+use Rattle.std.proofs.Common.{◌≡◌, ℕ, zero, suc, ◌+◌, ◌*◌, ◌<◌, Bool, true, false, cond, not, ◌&&◌, ◌||◌, eqb, ltb, leb, List, [], ◌∷◌, length, get_or, refl, sym, ap, ◌∙◌, inl, inr, ⊎_elim, arith, ◌⊎◌}
+use Rattle.std.proofs.lemmas.Bool.{false≢true, and_parts, cases_eq}
 use Rattle.std.specs.List.{fold, list_all}
 use Rattle.c_lexer.specs.declared.punctuator.Punctuator.{Punctuator}
 use Rattle.c_lexer.specs.declared.punctuator.Punctuator.TheVariants as punctuators
+use Rattle.c_lexer.specs.Beginnings.{punctuators_from}
 use Rattle.c_lexer.specs.Punctuator.{punctuator_text}
 use Rattle.c_lexer.specs.Bytes.{is_digit, is_word_byte, is_blank}
 use Rattle.c_lexer.specs.Scanning.{begins_comment}
 use Rattle.c_lexer.proofs.Classes.{class_of_text}
+
+unfoldable pub all_below : ℕ → (ℕ → Bool) → Bool
+all_below zero p = true
+all_below (suc n) p = p n && all_below n p
+
+pub all_below-at : (n : ℕ) (p : ℕ → Bool) → all_below n p ≡ true → (k : ℕ) → k < n → p k ≡ true
+unfolding all_below
+all_below-at zero p all k below = absurd (omega arith)
+all_below-at (suc n) p all k below =
+    let parts = and_parts (p n) (all_below n p) all in
+    ⊎_elim (λ last. ap p last ∙ parts.0) (λ other. all_below-at n p parts.1 k (omega arith)) (cases_eq k n)
 
 -- a first byte that is no letter, digit, quote or blank, and a byte at least
 abbrev pub looks_so : List ℕ → Bool
@@ -381,214 +393,52 @@ punctuator_at-text punctuators.Hash = refl
 pub punctuator_text_injective : (p q : Punctuator) → punctuator_text p ≡ punctuator_text q → p ≡ q
 punctuator_text_injective p q same = sym (punctuator_at-text p) ∙ ap (λ text. punctuator_at (number_of text)) same ∙ punctuator_at-text q
 
-abbrev pub all_punctuators : List Punctuator
-all_punctuators = punctuators.Ellipsis ∷ punctuators.LeftShiftAssign ∷ punctuators.RightShiftAssign ∷ punctuators.Arrow ∷ punctuators.Increment ∷ punctuators.Decrement ∷ punctuators.LeftShift ∷ punctuators.RightShift ∷ punctuators.LessOrEqual ∷ punctuators.GreaterOrEqual ∷ punctuators.Equal ∷ punctuators.NotEqual ∷ punctuators.LogicalAnd ∷ punctuators.LogicalOr ∷ punctuators.MultiplyAssign ∷ punctuators.DivideAssign ∷ punctuators.RemainderAssign ∷ punctuators.AddAssign ∷ punctuators.SubtractAssign ∷ punctuators.AndAssign ∷ punctuators.XorAssign ∷ punctuators.OrAssign ∷ punctuators.HashHash ∷ punctuators.DoubleColon ∷ punctuators.OpenBracket ∷ punctuators.CloseBracket ∷ punctuators.OpenParenthesis ∷ punctuators.CloseParenthesis ∷ punctuators.OpenBrace ∷ punctuators.CloseBrace ∷ punctuators.Point ∷ punctuators.Ampersand ∷ punctuators.Star ∷ punctuators.Plus ∷ punctuators.Minus ∷ punctuators.Tilde ∷ punctuators.Exclamation ∷ punctuators.Slash ∷ punctuators.Percent ∷ punctuators.Less ∷ punctuators.Greater ∷ punctuators.Caret ∷ punctuators.Bar ∷ punctuators.Question ∷ punctuators.Colon ∷ punctuators.Semicolon ∷ punctuators.Assign ∷ punctuators.Comma ∷ punctuators.Hash ∷ []
-
--- where it stands among all
+-- where it stands among those that begin with its first byte
 abbrev pub place_of : Punctuator → ℕ
-place_of punctuators.Ellipsis = 0
-place_of punctuators.LeftShiftAssign = 1
-place_of punctuators.RightShiftAssign = 2
-place_of punctuators.Arrow = 3
-place_of punctuators.Increment = 4
-place_of punctuators.Decrement = 5
-place_of punctuators.LeftShift = 6
-place_of punctuators.RightShift = 7
-place_of punctuators.LessOrEqual = 8
-place_of punctuators.GreaterOrEqual = 9
-place_of punctuators.Equal = 10
-place_of punctuators.NotEqual = 11
-place_of punctuators.LogicalAnd = 12
-place_of punctuators.LogicalOr = 13
-place_of punctuators.MultiplyAssign = 14
-place_of punctuators.DivideAssign = 15
-place_of punctuators.RemainderAssign = 16
-place_of punctuators.AddAssign = 17
-place_of punctuators.SubtractAssign = 18
-place_of punctuators.AndAssign = 19
-place_of punctuators.XorAssign = 20
-place_of punctuators.OrAssign = 21
-place_of punctuators.HashHash = 22
-place_of punctuators.DoubleColon = 23
-place_of punctuators.OpenBracket = 24
-place_of punctuators.CloseBracket = 25
-place_of punctuators.OpenParenthesis = 26
-place_of punctuators.CloseParenthesis = 27
-place_of punctuators.OpenBrace = 28
-place_of punctuators.CloseBrace = 29
-place_of punctuators.Point = 30
-place_of punctuators.Ampersand = 31
-place_of punctuators.Star = 32
-place_of punctuators.Plus = 33
-place_of punctuators.Minus = 34
-place_of punctuators.Tilde = 35
-place_of punctuators.Exclamation = 36
-place_of punctuators.Slash = 37
-place_of punctuators.Percent = 38
-place_of punctuators.Less = 39
-place_of punctuators.Greater = 40
-place_of punctuators.Caret = 41
-place_of punctuators.Bar = 42
-place_of punctuators.Question = 43
-place_of punctuators.Colon = 44
-place_of punctuators.Semicolon = 45
-place_of punctuators.Assign = 46
-place_of punctuators.Comma = 47
-place_of punctuators.Hash = 48
+place_of punctuators.Point = 1
+place_of punctuators.LeftShift = 1
+place_of punctuators.LessOrEqual = 2
+place_of punctuators.Less = 3
+place_of punctuators.RightShift = 1
+place_of punctuators.GreaterOrEqual = 2
+place_of punctuators.Greater = 3
+place_of punctuators.Decrement = 1
+place_of punctuators.SubtractAssign = 2
+place_of punctuators.Minus = 3
+place_of punctuators.AddAssign = 1
+place_of punctuators.Plus = 2
+place_of punctuators.Assign = 1
+place_of punctuators.Exclamation = 1
+place_of punctuators.AndAssign = 1
+place_of punctuators.Ampersand = 2
+place_of punctuators.OrAssign = 1
+place_of punctuators.Bar = 2
+place_of punctuators.Star = 1
+place_of punctuators.Slash = 1
+place_of punctuators.Percent = 1
+place_of punctuators.Caret = 1
+place_of punctuators.Hash = 1
+place_of punctuators.Colon = 1
+place_of other = 0
 
--- how long the one at a place is
-abbrev pub size_at : ℕ → ℕ
-size_at place = cond (ltb place 3) 3 (cond (ltb place 24) 2 1)
+-- those that begin with its first byte
+abbrev pub group_of : Punctuator → List Punctuator
+group_of punctuator = punctuators_from (get_or (punctuator_text punctuator) 0 0)
 
-pub size_at-place_of : (punctuator : Punctuator) → length (punctuator_text punctuator) ≡ size_at (place_of punctuator)
-size_at-place_of punctuators.Ellipsis = refl
-size_at-place_of punctuators.LeftShiftAssign = refl
-size_at-place_of punctuators.RightShiftAssign = refl
-size_at-place_of punctuators.Arrow = refl
-size_at-place_of punctuators.Increment = refl
-size_at-place_of punctuators.Decrement = refl
-size_at-place_of punctuators.LeftShift = refl
-size_at-place_of punctuators.RightShift = refl
-size_at-place_of punctuators.LessOrEqual = refl
-size_at-place_of punctuators.GreaterOrEqual = refl
-size_at-place_of punctuators.Equal = refl
-size_at-place_of punctuators.NotEqual = refl
-size_at-place_of punctuators.LogicalAnd = refl
-size_at-place_of punctuators.LogicalOr = refl
-size_at-place_of punctuators.MultiplyAssign = refl
-size_at-place_of punctuators.DivideAssign = refl
-size_at-place_of punctuators.RemainderAssign = refl
-size_at-place_of punctuators.AddAssign = refl
-size_at-place_of punctuators.SubtractAssign = refl
-size_at-place_of punctuators.AndAssign = refl
-size_at-place_of punctuators.XorAssign = refl
-size_at-place_of punctuators.OrAssign = refl
-size_at-place_of punctuators.HashHash = refl
-size_at-place_of punctuators.DoubleColon = refl
-size_at-place_of punctuators.OpenBracket = refl
-size_at-place_of punctuators.CloseBracket = refl
-size_at-place_of punctuators.OpenParenthesis = refl
-size_at-place_of punctuators.CloseParenthesis = refl
-size_at-place_of punctuators.OpenBrace = refl
-size_at-place_of punctuators.CloseBrace = refl
-size_at-place_of punctuators.Point = refl
-size_at-place_of punctuators.Ampersand = refl
-size_at-place_of punctuators.Star = refl
-size_at-place_of punctuators.Plus = refl
-size_at-place_of punctuators.Minus = refl
-size_at-place_of punctuators.Tilde = refl
-size_at-place_of punctuators.Exclamation = refl
-size_at-place_of punctuators.Slash = refl
-size_at-place_of punctuators.Percent = refl
-size_at-place_of punctuators.Less = refl
-size_at-place_of punctuators.Greater = refl
-size_at-place_of punctuators.Caret = refl
-size_at-place_of punctuators.Bar = refl
-size_at-place_of punctuators.Question = refl
-size_at-place_of punctuators.Colon = refl
-size_at-place_of punctuators.Semicolon = refl
-size_at-place_of punctuators.Assign = refl
-size_at-place_of punctuators.Comma = refl
-size_at-place_of punctuators.Hash = refl
+pub at_place : (punctuator d : Punctuator) → get_or (group_of punctuator) (place_of punctuator) d ≡ punctuator
+at_place punctuators.Ellipsis d = refl
+at_place other d = refl
 
-pub get_or-place_of : (punctuator d : Punctuator) → get_or all_punctuators (place_of punctuator) d ≡ punctuator
-get_or-place_of punctuators.Ellipsis d = refl
-get_or-place_of punctuators.LeftShiftAssign d = refl
-get_or-place_of punctuators.RightShiftAssign d = refl
-get_or-place_of punctuators.Arrow d = refl
-get_or-place_of punctuators.Increment d = refl
-get_or-place_of punctuators.Decrement d = refl
-get_or-place_of punctuators.LeftShift d = refl
-get_or-place_of punctuators.RightShift d = refl
-get_or-place_of punctuators.LessOrEqual d = refl
-get_or-place_of punctuators.GreaterOrEqual d = refl
-get_or-place_of punctuators.Equal d = refl
-get_or-place_of punctuators.NotEqual d = refl
-get_or-place_of punctuators.LogicalAnd d = refl
-get_or-place_of punctuators.LogicalOr d = refl
-get_or-place_of punctuators.MultiplyAssign d = refl
-get_or-place_of punctuators.DivideAssign d = refl
-get_or-place_of punctuators.RemainderAssign d = refl
-get_or-place_of punctuators.AddAssign d = refl
-get_or-place_of punctuators.SubtractAssign d = refl
-get_or-place_of punctuators.AndAssign d = refl
-get_or-place_of punctuators.XorAssign d = refl
-get_or-place_of punctuators.OrAssign d = refl
-get_or-place_of punctuators.HashHash d = refl
-get_or-place_of punctuators.DoubleColon d = refl
-get_or-place_of punctuators.OpenBracket d = refl
-get_or-place_of punctuators.CloseBracket d = refl
-get_or-place_of punctuators.OpenParenthesis d = refl
-get_or-place_of punctuators.CloseParenthesis d = refl
-get_or-place_of punctuators.OpenBrace d = refl
-get_or-place_of punctuators.CloseBrace d = refl
-get_or-place_of punctuators.Point d = refl
-get_or-place_of punctuators.Ampersand d = refl
-get_or-place_of punctuators.Star d = refl
-get_or-place_of punctuators.Plus d = refl
-get_or-place_of punctuators.Minus d = refl
-get_or-place_of punctuators.Tilde d = refl
-get_or-place_of punctuators.Exclamation d = refl
-get_or-place_of punctuators.Slash d = refl
-get_or-place_of punctuators.Percent d = refl
-get_or-place_of punctuators.Less d = refl
-get_or-place_of punctuators.Greater d = refl
-get_or-place_of punctuators.Caret d = refl
-get_or-place_of punctuators.Bar d = refl
-get_or-place_of punctuators.Question d = refl
-get_or-place_of punctuators.Colon d = refl
-get_or-place_of punctuators.Semicolon d = refl
-get_or-place_of punctuators.Assign d = refl
-get_or-place_of punctuators.Comma d = refl
-get_or-place_of punctuators.Hash d = refl
+pub in_group : (punctuator : Punctuator) → ltb (place_of punctuator) (length (group_of punctuator)) ≡ true
+in_group punctuators.Ellipsis = refl
+in_group other = refl
 
-pub place_of-lt : (punctuator : Punctuator) → ltb (place_of punctuator) 49 ≡ true
-place_of-lt punctuators.Ellipsis = refl
-place_of-lt punctuators.LeftShiftAssign = refl
-place_of-lt punctuators.RightShiftAssign = refl
-place_of-lt punctuators.Arrow = refl
-place_of-lt punctuators.Increment = refl
-place_of-lt punctuators.Decrement = refl
-place_of-lt punctuators.LeftShift = refl
-place_of-lt punctuators.RightShift = refl
-place_of-lt punctuators.LessOrEqual = refl
-place_of-lt punctuators.GreaterOrEqual = refl
-place_of-lt punctuators.Equal = refl
-place_of-lt punctuators.NotEqual = refl
-place_of-lt punctuators.LogicalAnd = refl
-place_of-lt punctuators.LogicalOr = refl
-place_of-lt punctuators.MultiplyAssign = refl
-place_of-lt punctuators.DivideAssign = refl
-place_of-lt punctuators.RemainderAssign = refl
-place_of-lt punctuators.AddAssign = refl
-place_of-lt punctuators.SubtractAssign = refl
-place_of-lt punctuators.AndAssign = refl
-place_of-lt punctuators.XorAssign = refl
-place_of-lt punctuators.OrAssign = refl
-place_of-lt punctuators.HashHash = refl
-place_of-lt punctuators.DoubleColon = refl
-place_of-lt punctuators.OpenBracket = refl
-place_of-lt punctuators.CloseBracket = refl
-place_of-lt punctuators.OpenParenthesis = refl
-place_of-lt punctuators.CloseParenthesis = refl
-place_of-lt punctuators.OpenBrace = refl
-place_of-lt punctuators.CloseBrace = refl
-place_of-lt punctuators.Point = refl
-place_of-lt punctuators.Ampersand = refl
-place_of-lt punctuators.Star = refl
-place_of-lt punctuators.Plus = refl
-place_of-lt punctuators.Minus = refl
-place_of-lt punctuators.Tilde = refl
-place_of-lt punctuators.Exclamation = refl
-place_of-lt punctuators.Slash = refl
-place_of-lt punctuators.Percent = refl
-place_of-lt punctuators.Less = refl
-place_of-lt punctuators.Greater = refl
-place_of-lt punctuators.Caret = refl
-place_of-lt punctuators.Bar = refl
-place_of-lt punctuators.Question = refl
-place_of-lt punctuators.Colon = refl
-place_of-lt punctuators.Semicolon = refl
-place_of-lt punctuators.Assign = refl
-place_of-lt punctuators.Comma = refl
-place_of-lt punctuators.Hash = refl
+pub some_text : (punctuator : Punctuator) → ltb 0 (length (punctuator_text punctuator)) ≡ true
+some_text punctuators.Ellipsis = refl
+some_text other = refl
+
+-- each that stands before it there is as long, or longer
+pub as_long_before : (punctuator : Punctuator) → all_below (suc (place_of punctuator)) (λ i. leb (length (punctuator_text punctuator)) (length (punctuator_text (get_or (group_of punctuator) i punctuator)))) ≡ true
+unfolding all_below
+as_long_before punctuators.Ellipsis = refl
+as_long_before other = refl

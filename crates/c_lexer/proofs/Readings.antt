@@ -5,6 +5,7 @@ use Rattle.rc_text.specs.declared.place.Place.{Place}
 use Rattle.rc_text.specs.Places.{place_after}
 use Rattle.c_lexer.specs.declared.token.TokenKind.{TokenKind}
 use Rattle.c_lexer.specs.declared.token.TokenKind.TheVariants as kinds
+use Rattle.c_lexer.specs.declared.fault.LexFaultKind.{LexFaultKind}
 use Rattle.c_lexer.specs.declared.fault.LexFault.{LexFault}
 use Rattle.c_lexer.specs.declared.fault.LexRefusal.{LexRefusal}
 use Rattle.c_lexer.specs.declared.fault.LexRefusal.TheVariants as refusals
@@ -17,11 +18,12 @@ use Rattle.c_lexer.specs.declared.directive.DirectiveKind.{DirectiveKind}
 use Rattle.c_lexer.specs.declared.token.Token.{Token}
 use Rattle.c_lexer.specs.Directives.{directive_macro, directive_declaration}
 use Rattle.c_lexer.specs.Kinds.{kind_of, meaning_in}
-use Rattle.c_lexer.specs.Elements.{Kind, Blank, Comment, Lexed, Element, ElementBegins, AreElements, has_line_feed, bytes_of, first_of, meaning_of, replaced, kept_text, tokens_of, include_by, includes_of}
-use Rattle.c_lexer.specs.Files.{AreTokensOf, IsFaultOf, token_limit}
+use Rattle.c_lexer.specs.Elements.{Kind, Blank, Comment, Lexed, Element, ElementBegins, NoElementBegins, AreElements, has_line_feed, bytes_of, first_of, meaning_of, replaced, kept_text, tokens_of, include_by, includes_of}
+use Rattle.c_lexer.specs.Files.{AreTokensOf, Opens, IsFaultOf, token_limit}
 use Rattle.c_lexer.specs.Reading.{includes_at, Keeps, HasRead, Stands, Refuses, Concludes, Answers}
 use Rattle.c_lexer.specs.Scanning.{is_word_kind, directive_in, kind_in}
 use Rattle.c_lexer.proofs.Lexemes.{class_of_kind, class_is, class_of_letter, is_word_first}
+use Rattle.c_lexer.proofs.FirstOfLine.{begins_first, none_begins_first}
 use Rattle.c_lexer.proofs.Files.{same_tokens, same_fault, tokens_or_fault}
 
 take_add : (m n : ℕ) (xs : List ℕ) → take m xs ++ take n (drop m xs) ≡ take (m + n) xs
@@ -34,7 +36,7 @@ pub record Further (bytes : List ℕ) (reader new : Reader) : Type 0 where
   pub moved : reader.place.byte < new.place.byte
 
 pub further : (bytes rest : List ℕ) (reader new : Reader) (kind : Kind) (n : ℕ) (stands : Stands bytes reader) → rest ≡ drop reader.place.byte bytes → 0 < n → n ≤ length rest
-    → ElementBegins reader.fresh rest kind (take n rest) (drop n rest) → HasRead (record { kind = kind; text = take n rest } ∷ stands.elements) new → Further bytes reader new
+    → ElementBegins (reader.fresh ≡ true) rest kind (take n rest) (drop n rest) → HasRead (record { kind = kind; text = take n rest } ∷ stands.elements) new → Further bytes reader new
 further bytes rest reader new kind n stands rest_is some inside begins read =
     let at = reader.place.byte in
     let size : length rest ≡ length bytes - at = ap length rest_is ∙ length-drop at bytes in
@@ -49,8 +51,8 @@ further bytes rest reader new kind n stands rest_is some inside begins read =
         are = (
           drop at bytes,
           stands.are,
-          subst (λ f. ElementBegins f (drop at bytes) kind (take n rest) (drop new.place.byte bytes)) stands.read.fresh
-              (subst (λ l. ElementBegins reader.fresh l kind (take n rest) (drop new.place.byte bytes)) rest_is (subst (λ l. ElementBegins reader.fresh rest kind (take n rest) l) back begins)),
+          begins_first stands.elements reader.fresh stands.read.fresh (drop at bytes) kind (take n rest) (drop new.place.byte bytes)
+              (subst (λ l. ElementBegins (reader.fresh ≡ true) l kind (take n rest) (drop new.place.byte bytes)) rest_is (subst (λ l. ElementBegins (reader.fresh ≡ true) rest kind (take n rest) l) back begins)),
         );
         inside = omega (arith, stands.inside, byte, size);
         before = before ∙ ap (λ k. take k bytes) (sym byte);
@@ -58,6 +60,20 @@ further bytes rest reader new kind n stands rest_is some inside begins read =
       };
       moved = omega (arith, byte);
     }
+
+-- where no further element begins, the reader's place is that of the fault
+pub fault_read : (bytes rest : List ℕ) (reader : Reader) (kind : LexFaultKind) → Stands bytes reader → rest ≡ drop reader.place.byte bytes → NoElementBegins (reader.fresh ≡ true) rest → Opens kind rest
+    → IsFaultOf bytes (record { place = reader.place; kind = kind })
+fault_read bytes rest reader kind stands rest_is none opens = (
+  stands.elements,
+  rest,
+  record {
+    are = subst (λ l. AreElements bytes stands.elements l) (sym rest_is) stands.are;
+    stops = none_begins_first stands.elements reader.fresh stands.read.fresh rest none;
+    opens = opens;
+    place = stands.read.place;
+  },
+)
 
 -- ---- names
 

@@ -10,9 +10,11 @@ use Rattle.c_lexer.specs.declared.fault.LexFault.{LexFault}
 use Rattle.c_lexer.specs.declared.scanner.Unread.TheVariants as unreads
 use Rattle.c_lexer.specs.Directives.{HasName}
 use Rattle.c_lexer.specs.TokenLists.{TokenLists}
-use Rattle.c_lexer.specs.Elements.{Kind, Element, ElementBegins, NoElementBegins, AreElements, is_fresh, is_fresh_after, bytes_of, tokens_of, includes_of}
+use Rattle.c_lexer.specs.Elements.{Kind, Element, ElementBegins, NoElementBegins, AreElements, bytes_of, tokens_of, includes_of}
+use Rattle.c_lexer.specs.Reading.{is_fresh, is_fresh_after}
 use Rattle.c_lexer.specs.Files.{Opens, IsFaultOf, HasReading, token_limit}
 use Rattle.c_lexer.specs.Scanning.{OpensAs, IsNameBehind}
+use Rattle.c_lexer.proofs.FirstOfLine.{begins_first, none_begins_first}
 use Rattle.c_lexer.proofs.Files.{same_fault}
 
 -- elements were passed up to a place in the bytes
@@ -27,7 +29,7 @@ none_passed bytes = record { elements = []; are = refl; inside = omega arith; fr
 
 -- one element more
 pub passes : (bytes rest : List ℕ) (at n : ℕ) (fresh after : Bool) (kind : Kind) → HasPassed bytes at fresh → rest ≡ drop at bytes → n ≤ length rest
-    → ElementBegins fresh rest kind (take n rest) (drop n rest) → after ≡ is_fresh_after kind (take n rest) fresh → HasPassed bytes (at + n) after
+    → ElementBegins (fresh ≡ true) rest kind (take n rest) (drop n rest) → after ≡ is_fresh_after kind (take n rest) fresh → HasPassed bytes (at + n) after
 passes bytes rest at n fresh after kind passed rest_is inside begins after_is =
     let size : length rest ≡ length bytes - at = ap length rest_is ∙ length-drop at bytes in
     let back : drop n rest ≡ drop (at + n) bytes = ap (drop n) rest_is ∙ drop-drop n at bytes in
@@ -36,8 +38,8 @@ passes bytes rest at n fresh after kind passed rest_is inside begins after_is =
       are = (
         drop at bytes,
         passed.are,
-        subst (λ f. ElementBegins f (drop at bytes) kind (take n rest) (drop (at + n) bytes)) passed.fresh_is
-            (subst (λ l. ElementBegins fresh l kind (take n rest) (drop (at + n) bytes)) rest_is (subst (λ l. ElementBegins fresh rest kind (take n rest) l) back begins)),
+        begins_first passed.elements fresh passed.fresh_is (drop at bytes) kind (take n rest) (drop (at + n) bytes)
+            (subst (λ l. ElementBegins (fresh ≡ true) l kind (take n rest) (drop (at + n) bytes)) rest_is (subst (λ l. ElementBegins (fresh ≡ true) rest kind (take n rest) l) back begins)),
       );
       inside = omega (arith, passed.inside, size, inside);
       fresh_is = after_is ∙ ap (is_fresh_after kind (take n rest)) passed.fresh_is;
@@ -55,7 +57,7 @@ all_passed bytes at fresh passed all =
     (cases_lt token_limit (length (tokens_of elements)))
 
 -- no element begins the bytes at a place
-pub stopped : (bytes rest : List ℕ) (at : ℕ) (fresh : Bool) → HasPassed bytes at fresh → rest ≡ drop at bytes → NoElementBegins fresh rest × ((kind : LexFaultKind) × Opens kind rest) → HasReading bytes
+pub stopped : (bytes rest : List ℕ) (at : ℕ) (fresh : Bool) → HasPassed bytes at fresh → rest ≡ drop at bytes → NoElementBegins (fresh ≡ true) rest × ((kind : LexFaultKind) × Opens kind rest) → HasReading bytes
 stopped bytes rest at fresh passed rest_is stops =
     let elements = passed.elements in
     let fault : LexFault = record { place = place_after (bytes_of elements); kind = stops.1.0 } in
@@ -64,7 +66,7 @@ stopped bytes rest at fresh passed rest_is stops =
       rest,
       record {
         are = subst (λ l. AreElements bytes elements l) (sym rest_is) passed.are;
-        stops = subst (λ f. NoElementBegins f rest) passed.fresh_is stops.0;
+        stops = none_begins_first elements fresh passed.fresh_is rest stops.0;
         opens = stops.1.1;
         place = refl;
       },

@@ -1,5 +1,5 @@
 -- Comments, and what may stand between the parts of a directive (C11 6.4.9, 6.10).
-use Rattle.std.specs.Prelude.{◌≡◌, ◌≢◌, ℕ, zero, suc, ◌+◌, ◌<◌, ◌≤◌, Bool, true, ◌==◌, IsTrue, List, [], ◌∷◌, ◌++◌}
+use Rattle.std.specs.Prelude.{◌≡◌, ◌≢◌, ℕ, ◌+◌, ◌<◌, ◌≤◌, Bool, true, ◌==◌, IsTrue, List, [], ◌∷◌, ◌++◌}
 use Rattle.std.specs.Prelude.{length, slice_index, ◌⊎◌}
 use Rattle.std.specs.List.{list_all}
 use Rattle.c_lexer.specs.Bytes.{is_blank, is_line_byte}
@@ -36,11 +36,11 @@ abbrev pub GapBegins : List ℕ → List ℕ → Type 0
 GapBegins bytes rest = ((b : ℕ) × IsTrue (is_blank b) × (b ≢ 10) × (bytes ≡ b ∷ rest))
     ⊎ ((text : List ℕ) × CommentBegins bytes text rest)
 
--- n blanks and comments begin the bytes
-abbrev pub IsGap : ℕ → List ℕ → List ℕ → Type 0
-IsGap zero bytes rest = bytes ≡ rest
-IsGap (suc n) bytes rest = (after : List ℕ) × GapBegins bytes after × IsGap n after rest
+-- blanks and comments begin the bytes, one behind the other: the list has what stands behind each
+abbrev pub IsGap : List (List ℕ) → List ℕ → List ℕ → Type 0
+IsGap [] bytes rest = bytes ≡ rest
+IsGap (after ∷ afters) bytes rest = GapBegins bytes after × IsGap afters after rest
 
 -- the rest is what stands behind all blanks and comments
 abbrev pub IsBehindGap : List ℕ → List ℕ → Type 0
-IsBehindGap bytes rest = ((n : ℕ) × IsGap n bytes rest) × ((after : List ℕ) → GapBegins rest after → ⊥)
+IsBehindGap bytes rest = ((afters : List (List ℕ)) × IsGap afters bytes rest) × ((after : List ℕ) → GapBegins rest after → ⊥)

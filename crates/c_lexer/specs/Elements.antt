@@ -1,6 +1,6 @@
 -- The elements of a file: blanks, comments, directives and tokens, each of which begins where the one before ends.
 -- A list of elements has the last first, so that each stands before the list of those that precede it.
-use Rattle.std.specs.Prelude.{◌≡◌, ◌≢◌, ℕ, Bool, true, false, ◌==◌, ◌||◌, IsTrue, List, [], ◌∷◌, ◌++◌, Option}
+use Rattle.std.specs.Prelude.{◌≡◌, ◌≢◌, ℕ, Bool, true, false, ◌==◌, IsTrue, List, [], ◌∷◌, ◌++◌, Option}
 use Rattle.std.specs.Prelude.{Some, None}
 use Rattle.std.specs.List.{list_any}
 use Rattle.rc_text.specs.declared.place.Place.{Place}
@@ -34,36 +34,39 @@ bytes_of (element ∷ earlier) = bytes_of earlier ++ element.text
 abbrev pub has_line_feed : List ℕ → Bool
 has_line_feed text = list_any (λ b. b == 10) text
 
--- no token stands on the line so far, nor a directive
-abbrev pub is_fresh_after : Kind → List ℕ → Bool → Bool
-is_fresh_after Blank text fresh = has_line_feed text || fresh
-is_fresh_after Comment text fresh = has_line_feed text || fresh
-is_fresh_after (Line directive) text fresh = false
-is_fresh_after (Lexed kind) text fresh = false
+-- whether it is a token or a directive
+abbrev pub is_token_or_directive : Kind → Bool
+is_token_or_directive Blank = false
+is_token_or_directive Comment = false
+is_token_or_directive (Line directive) = true
+is_token_or_directive (Lexed kind) = true
 
-abbrev pub is_fresh : List Element → Bool
-is_fresh [] = true
-is_fresh (element ∷ earlier) = is_fresh_after element.kind element.text (is_fresh earlier)
+-- what comes next is the first of its line: behind each earlier token and directive stands a line feed
+abbrev pub AreBeforeLine : List Element → Type 0
+AreBeforeLine elements = (later : List Element) (element : Element) (earlier : List Element)
+    → elements ≡ later ++ element ∷ earlier → IsTrue (is_token_or_directive element.kind)
+    → IsTrue (has_line_feed (bytes_of later))
 
--- The element begins the bytes. A `#` that is the first token of its line is none by itself.
-abbrev pub ElementBegins : Bool → List ℕ → Kind → List ℕ → List ℕ → Type 0
-ElementBegins fresh bytes Blank text rest = (b : ℕ) × IsTrue (is_blank b) × (text ≡ b ∷ []) × (bytes ≡ b ∷ rest)
-ElementBegins fresh bytes Comment text rest = CommentBegins bytes text rest
-ElementBegins fresh bytes (Line directive) text rest = IsTrue fresh × (bytes ≡ text ++ rest)
+-- The element begins the bytes, where it may be known to be the first of its line. A `#` that is the first token of its
+-- line is none by itself.
+abbrev pub ElementBegins : Type 0 → List ℕ → Kind → List ℕ → List ℕ → Type 0
+ElementBegins First bytes Blank text rest = (b : ℕ) × IsTrue (is_blank b) × (text ≡ b ∷ []) × (bytes ≡ b ∷ rest)
+ElementBegins First bytes Comment text rest = CommentBegins bytes text rest
+ElementBegins First bytes (Line directive) text rest = First × (bytes ≡ text ++ rest)
     × DirectiveBegins bytes directive rest
-ElementBegins fresh bytes (Lexed kind) text rest = Begins bytes kind text rest
-    × (IsTrue fresh → kind ≢ kinds.Punctuator punctuators.Hash)
+ElementBegins First bytes (Lexed kind) text rest = Begins bytes kind text rest
+    × (First → kind ≢ kinds.Punctuator punctuators.Hash)
 
 -- no element begins the bytes
-abbrev pub NoElementBegins : Bool → List ℕ → Type 0
-NoElementBegins fresh bytes = (kind : Kind) (text rest : List ℕ) → ElementBegins fresh bytes kind text rest → ⊥
+abbrev pub NoElementBegins : Type 0 → List ℕ → Type 0
+NoElementBegins First bytes = (kind : Kind) (text rest : List ℕ) → ElementBegins First bytes kind text rest → ⊥
 
 -- the elements begin the bytes, and the rest stands behind them
 abbrev pub AreElements : List ℕ → List Element → List ℕ → Type 0
 AreElements bytes [] rest = bytes ≡ rest
 AreElements bytes (element ∷ earlier) rest =
     (from : List ℕ) × AreElements bytes earlier from
-    × ElementBegins (is_fresh earlier) from element.kind element.text rest
+    × ElementBegins (AreBeforeLine earlier) from element.kind element.text rest
 
 -- what an element makes of a name as a macro, and what it declares it as
 abbrev pub element_macro : Kind → List ℕ → Option TokenKind

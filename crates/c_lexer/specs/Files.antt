@@ -8,7 +8,7 @@ use Rattle.c_lexer.specs.declared.fault.LexFault.{LexFault}
 use Rattle.c_lexer.specs.Bytes.{is_bad_byte, is_digit}
 use Rattle.c_lexer.specs.Directives.{HasName}
 use Rattle.c_lexer.specs.TokenLists.{TokenLists}
-use Rattle.c_lexer.specs.Elements.{Element, is_fresh, bytes_of, AreElements, NoElementBegins, tokens_of, includes_of}
+use Rattle.c_lexer.specs.Elements.{Element, AreBeforeLine, bytes_of, AreElements, NoElementBegins, tokens_of, includes_of}
 
 -- the elements of the whole file give these tokens and includes, and its end is the place that follows all bytes
 abbrev pub AreTokensOf : List ℕ → TokenLists → Type 0
@@ -32,7 +32,7 @@ Opens (Directive name) bytes = (rest : List ℕ) × (bytes ≡ 35 ∷ rest) × H
 -- behind these elements no further one begins
 pub record IsFaultAfter (bytes : List ℕ) (fault : LexFault) (elements : List Element) (rest : List ℕ) : Type 0 where
   pub are : AreElements bytes elements rest
-  pub stops : NoElementBegins (is_fresh elements) rest
+  pub stops : NoElementBegins (AreBeforeLine elements) rest
   pub opens : Opens fault.kind rest
   pub place : fault.place ≡ place_after (bytes_of elements)
 

@@ -8,6 +8,7 @@ use Rattle.c_lexer.specs.declared.atomic_operation.AtomicOperation.TheVariants a
 use Rattle.c_lexer.specs.declared.keyword.Keyword.TheVariants as keywords
 use Rattle.c_lexer.specs.declared.token.TokenKind.{TokenKind}
 use Rattle.c_lexer.specs.declared.token.TokenKind.TheVariants as kinds
+use Rattle.c_lexer.specs.declared.token.IntegerConstant.{IntegerConstant}
 use Rattle.c_lexer.specs.declared.token.IntegerBase.TheVariants as bases
 use Rattle.c_lexer.specs.declared.token.IntegerSuffix.TheVariants as suffixes
 
@@ -20,8 +21,8 @@ header_text headers.Stdatomic = codes "<stdatomic.h>"
 header_text headers.Refinedc = codes "<refinedc.h>"
 
 -- a decimal constant without a suffix
-abbrev pub plain_integer : ℕ → TokenKind
-plain_integer value = kinds.Integer (record { value = value; base = bases.Decimal; suffix = suffixes.Plain })
+abbrev pub plain_decimal : ℕ → IntegerConstant
+plain_decimal value = record { value = value; base = bases.Decimal; suffix = suffixes.Plain }
 
 -- the macros of a header, and what each stands for (C11 7.19, 7.18)
 abbrev pub header_macros : Header → List (List ℕ × TokenKind)
@@ -29,8 +30,8 @@ header_macros headers.Stddef = (codes "NULL", kinds.NullPointer) ∷ []
 header_macros headers.Stdint = []
 header_macros headers.Stdbool =
     (codes "bool", kinds.Keyword keywords.Bool)
-    ∷ (codes "true", plain_integer 1)
-    ∷ (codes "false", plain_integer 0)
+    ∷ (codes "true", kinds.Integer (plain_decimal 1))
+    ∷ (codes "false", kinds.Integer (plain_decimal 0))
     ∷ []
 header_macros headers.Stdatomic = []
 header_macros headers.Refinedc = []

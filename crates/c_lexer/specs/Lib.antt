@@ -1,6 +1,7 @@
 pub mod Bytes
 pub mod Keyword
 pub mod Punctuator
+pub mod Beginnings
 pub mod Integers
 pub mod Floating
 pub mod Spelling

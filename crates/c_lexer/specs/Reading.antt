@@ -1,5 +1,5 @@
 -- What a reader has read of a file.
-use Rattle.std.specs.Prelude.{◌≡◌, ℕ, ◌<◌, ◌≤◌, List, ◌++◌, map, length, take, drop, Result, Ok, Err, ◌⊎◌}
+use Rattle.std.specs.Prelude.{◌≡◌, ℕ, ◌<◌, ◌≤◌, Bool, true, false, ◌||◌, List, [], ◌∷◌, ◌++◌, map, length, take, drop, Result, Ok, Err, ◌⊎◌}
 use Rattle.rc_text.specs.declared.place.Place.{Place}
 use Rattle.rc_text.specs.Places.{place_after}
 use Rattle.c_lexer.specs.declared.fault.LexRefusal.{LexRefusal}
@@ -9,9 +9,21 @@ use Rattle.c_lexer.specs.declared.reader.Reader.{Reader}
 use Rattle.c_lexer.specs.declared.token.Token.{Token}
 use Rattle.c_lexer.specs.declared.tokens.Include.{Include}
 use Rattle.c_lexer.specs.TokenLists.{TokenLists}
-use Rattle.c_lexer.specs.Elements.{Element, bytes_of, is_fresh, AreElements, macro_of, declaration_of, tokens_of, includes_of}
+use Rattle.c_lexer.specs.Elements.{Kind, Blank, Comment, Line, Lexed, Element, has_line_feed, bytes_of, AreElements}
+use Rattle.c_lexer.specs.Elements.{macro_of, declaration_of, tokens_of, includes_of}
 use Rattle.c_lexer.specs.Files.{AreTokensOf, IsFaultOf, token_limit}
 use Rattle.c_lexer.specs.Kinds.{kind_of}
+
+-- no token and no directive stands on the line behind an element, given the same before it
+abbrev pub is_fresh_after : Kind → List ℕ → Bool → Bool
+is_fresh_after Blank text fresh = has_line_feed text || fresh
+is_fresh_after Comment text fresh = has_line_feed text || fresh
+is_fresh_after (Line directive) text fresh = false
+is_fresh_after (Lexed kind) text fresh = false
+
+abbrev pub is_fresh : List Element → Bool
+is_fresh [] = true
+is_fresh (element ∷ earlier) = is_fresh_after element.kind element.text (is_fresh earlier)
 
 -- the includes so far, where the next token behind them, or the end, has this place
 abbrev pub includes_at : Includes → Place → List Include

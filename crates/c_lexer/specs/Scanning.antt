@@ -136,8 +136,8 @@ StandWithin (founds.Lexed kind) n = Unit {0}
 abbrev pub IsFound : Bool → List ℕ → Result Found Unread → Type 0
 IsFound fresh bytes (Ok found) =
     (0 < found.length) × (found.length ≤ length bytes) × StandWithin found.kind (length bytes - 1)
-    × ElementBegins fresh bytes (kind_in bytes found.kind) (take found.length bytes) (drop found.length bytes)
-IsFound fresh bytes (Err unread) = NoElementBegins fresh bytes × OpensAs unread bytes
+    × ElementBegins (IsTrue fresh) bytes (kind_in bytes found.kind) (take found.length bytes) (drop found.length bytes)
+IsFound fresh bytes (Err unread) = NoElementBegins (IsTrue fresh) bytes × OpensAs unread bytes
 
 -- `0x` or `0X` begins the bytes
 abbrev pub begins_hexadecimal : List ℕ → Bool

@@ -1,22 +1,11 @@
 ghost use Rattle.std.specs.Prelude.{◌≡◌, slice_index};
-ghost use Rattle.c_lexer.specs.Bytes.{is_blank, is_bad_byte, is_digit, is_letter, is_word_byte, is_line_byte};
+ghost use Rattle.c_lexer.specs.Bytes.{is_blank, is_digit, is_letter, is_word_byte, is_line_byte};
 ghost use Rattle.c_lexer.specs.Bytes.{is_string_byte, is_character_byte, is_octal_digit, is_hexadecimal_digit};
 
 pub(crate) fn is_blank(byte: u8) -> bool
     ensures { result ≡ is_blank byte }
 {
     byte == b' ' || byte == b'\t' || byte == b'\n' || byte == b'\x0c' || byte == b'\r'
-}
-
-pub(crate) fn is_bad_byte(byte: u8) -> bool
-    ensures { result ≡ is_bad_byte byte }
-{
-    (byte < 32 && !is_blank(byte))
-        || byte > 126
-        || byte == b'@'
-        || byte == b'$'
-        || byte == b'`'
-        || byte == b'\\'
 }
 
 pub(crate) fn is_digit(byte: u8) -> bool

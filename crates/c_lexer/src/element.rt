@@ -1,5 +1,5 @@
 ghost use Rattle.std.specs.Prelude.{◌<◌, ◌≡◌, ◌==◌, ◌&&◌, ℕ, List, length, slice_index};
-ghost use Rattle.c_lexer.specs.Elements.{is_fresh_after};
+ghost use Rattle.c_lexer.specs.Reading.{is_fresh_after};
 ghost use Rattle.c_lexer.specs.Scanning.{IsFound, IsHashFound, kind_in};
 
 use crate::byte::{byte_at, is_blank};

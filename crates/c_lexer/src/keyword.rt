@@ -1,6 +1,9 @@
 ghost use Rattle.std.specs.Prelude.{◌≡◌, ◌≢◌, IfSome, IfNone};
 ghost use Rattle.c_lexer.specs.declared.keyword.Keyword.{Keyword};
+ghost use Rattle.c_lexer.specs.Beginnings.{keywords_from};
 ghost use Rattle.c_lexer.specs.Keyword.{keyword_text};
+
+use crate::byte::byte_at;
 
 /// A word that is no identifier: the keywords of C11 (6.4.1), and `asm`, which this profile reserves.
 #[derive(Clone, Copy, Debug, PartialEq, Eq, Hash)]
@@ -53,55 +56,6 @@ pub enum Keyword {
 }
 
 impl Keyword {
-    /// Every keyword, once.
-    const ALL: [Keyword; 45] = [
-        Keyword::Auto,
-        Keyword::Break,
-        Keyword::Case,
-        Keyword::Char,
-        Keyword::Const,
-        Keyword::Continue,
-        Keyword::Default,
-        Keyword::Do,
-        Keyword::Double,
-        Keyword::Else,
-        Keyword::Enum,
-        Keyword::Extern,
-        Keyword::Float,
-        Keyword::For,
-        Keyword::Goto,
-        Keyword::If,
-        Keyword::Inline,
-        Keyword::Int,
-        Keyword::Long,
-        Keyword::Register,
-        Keyword::Restrict,
-        Keyword::Return,
-        Keyword::Short,
-        Keyword::Signed,
-        Keyword::Sizeof,
-        Keyword::Static,
-        Keyword::Struct,
-        Keyword::Switch,
-        Keyword::Typedef,
-        Keyword::Union,
-        Keyword::Unsigned,
-        Keyword::Void,
-        Keyword::Volatile,
-        Keyword::While,
-        Keyword::Alignas,
-        Keyword::Alignof,
-        Keyword::Atomic,
-        Keyword::Bool,
-        Keyword::Complex,
-        Keyword::Generic,
-        Keyword::Imaginary,
-        Keyword::Noreturn,
-        Keyword::StaticAssert,
-        Keyword::ThreadLocal,
-        Keyword::Asm,
-    ];
-
     /// How the keyword is spelled.
     pub fn text(self) -> &'static str
         ensures { result.now ≡ keyword_text self }
@@ -155,14 +109,39 @@ impl Keyword {
         }
     }
 
+    /// The keywords that begin with a byte.
+    fn beginning_with(first: u8) -> &'static [Keyword]
+        ensures { result.now ≡ keywords_from first }
+    {
+        match first {
+            b'a' => &[Keyword::Auto, Keyword::Asm],
+            b'b' => &[Keyword::Break],
+            b'c' => &[Keyword::Case, Keyword::Char, Keyword::Const, Keyword::Continue],
+            b'd' => &[Keyword::Default, Keyword::Do, Keyword::Double],
+            b'e' => &[Keyword::Else, Keyword::Enum, Keyword::Extern],
+            b'f' => &[Keyword::Float, Keyword::For],
+            b'g' => &[Keyword::Goto],
+            b'i' => &[Keyword::If, Keyword::Inline, Keyword::Int],
+            b'l' => &[Keyword::Long],
+            b'r' => &[Keyword::Register, Keyword::Restrict, Keyword::Return],
+            b's' => &[Keyword::Short, Keyword::Signed, Keyword::Sizeof, Keyword::Static, Keyword::Struct, Keyword::Switch],
+            b't' => &[Keyword::Typedef],
+            b'u' => &[Keyword::Union, Keyword::Unsigned],
+            b'v' => &[Keyword::Void, Keyword::Volatile],
+            b'w' => &[Keyword::While],
+            b'_' => &[Keyword::Alignas, Keyword::Alignof, Keyword::Atomic, Keyword::Bool, Keyword::Complex, Keyword::Generic, Keyword::Imaginary, Keyword::Noreturn, Keyword::StaticAssert, Keyword::ThreadLocal],
+            _ => &[],
+        }
+    }
+
     /// The keyword that is spelled so.
     pub fn from_spelling(word: &[u8]) -> Option<Self>
         ensures found { IfSome result (λ keyword. word.now ≡ keyword_text keyword) }
         ensures none { IfNone result ((keyword : Keyword) → word.now ≢ keyword_text keyword) }
     {
-        for keyword in Keyword::ALL {
+        for keyword in Keyword::beginning_with(byte_at(word, 0)) {
             if keyword.text().as_bytes() == word {
-                return Some(keyword);
+                return Some(*keyword);
             }
         }
         None

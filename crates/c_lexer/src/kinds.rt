@@ -2,7 +2,7 @@ ghost use Rattle.std.specs.Prelude.{◌≡◌, ℕ, List, Option, Some, None, If
 ghost use Rattle.std.specs.Str.{bytes_eq};
 ghost use Rattle.c_lexer.specs.declared.token.TokenKind.{TokenKind};
 ghost use Rattle.c_lexer.specs.Elements.{first_of};
-ghost use Rattle.c_lexer.specs.Headers.{header_macros, header_declarations, kind_among, plain_integer};
+ghost use Rattle.c_lexer.specs.Headers.{header_macros, header_declarations, kind_among, plain_decimal};
 ghost use Rattle.c_lexer.specs.Kinds.{kind_of};
 ghost use Rattle.c_lexer.specs.declared.header.Header.TheVariants as headers;
 
@@ -68,8 +68,8 @@ impl Kinds {
         ensures { IfOk result (λ _. (name : List ℕ) → kind_of self.new name
             ≡ first_of (kind_among (header_macros headers.Stdbool) name) (kind_of self.old name)) }
     {
-        self.define(alloc, b"false", plain_integer(0))?;
-        self.define(alloc, b"true", plain_integer(1))?;
+        self.define(alloc, b"false", TokenKind::Integer(plain_decimal(0)))?;
+        self.define(alloc, b"true", TokenKind::Integer(plain_decimal(1)))?;
         self.define(alloc, b"bool", TokenKind::Keyword(Keyword::Bool))
     }
 
@@ -151,12 +151,12 @@ impl Kinds {
 }
 
 /// A decimal constant without a suffix.
-fn plain_integer(value: u128) -> TokenKind
-    ensures { result ≡ plain_integer value }
+fn plain_decimal(value: u128) -> IntegerConstant
+    ensures { result ≡ plain_decimal value }
 {
-    TokenKind::Integer(IntegerConstant {
+    IntegerConstant {
         value,
         base: IntegerBase::Decimal,
         suffix: IntegerSuffix::Plain,
-    })
+    }
 }

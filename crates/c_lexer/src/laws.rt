@@ -1,9 +1,10 @@
-ghost use Rattle.std.specs.Prelude.{◌≡◌, ℕ, ◌<◌, ◌≤◌, List, length, take, drop, MatchOption};
+ghost use Rattle.std.specs.Prelude.{◌≡◌, ℕ, ◌<◌, ◌≤◌, List, length, take, drop, IsTrue, MatchOption};
 ghost use Rattle.c_lexer.specs.declared.fault.LexFault.{LexFault};
 ghost use Rattle.c_lexer.specs.declared.fault.LexFaultKind.{LexFaultKind};
 ghost use Rattle.c_lexer.specs.TokenLists.{TokenLists};
-ghost use Rattle.c_lexer.specs.Elements.{Kind, ElementBegins, NoElementBegins, is_fresh_after};
+ghost use Rattle.c_lexer.specs.Elements.{Kind, ElementBegins, NoElementBegins};
 ghost use Rattle.c_lexer.specs.Files.{AreTokensOf, Opens, IsFaultOf, HasReading};
+ghost use Rattle.c_lexer.specs.Reading.{is_fresh_after};
 ghost use Rattle.c_lexer.specs.Scanning.{CanOpen};
 
 use crate::directive::name_behind;
@@ -43,9 +44,9 @@ pub fn every_file_has_a_reading(bytes: &[u8])
 fn step(rest: &[u8], fresh: bool) -> Option<(usize, bool)>
     requires { 0 < length rest.now }
     ensures { MatchOption result
-        (NoElementBegins fresh rest.now × ((kind : LexFaultKind) × Opens kind rest.now))
+        (NoElementBegins (IsTrue fresh) rest.now × ((kind : LexFaultKind) × Opens kind rest.now))
         (λ step. (0 < step.0) × (step.0 ≤ length rest.now) × ((kind : Kind)
-        × ElementBegins fresh rest.now kind (take step.0 rest.now) (drop step.0 rest.now)
+        × ElementBegins (IsTrue fresh) rest.now kind (take step.0 rest.now) (drop step.0 rest.now)
         × (step.1 ≡ is_fresh_after kind (take step.0 rest.now) fresh))) }
 {
     match element(rest, fresh) {

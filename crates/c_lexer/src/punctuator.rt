@@ -1,6 +1,9 @@
 ghost use Rattle.std.specs.Prelude.{◌≡◌};
+ghost use Rattle.c_lexer.specs.Beginnings.{punctuators_from};
 ghost use Rattle.c_lexer.specs.Punctuator.{punctuator_text};
 ghost use Rattle.c_lexer.specs.Scanning.{IsAtFront};
+
+use crate::byte::byte_at;
 
 /// A punctuator of C11 (6.4.6), the digraphs left aside, or the `::` of an attribute's prefix.
 #[derive(Clone, Copy, Debug, PartialEq, Eq, Hash)]
@@ -57,59 +60,6 @@ pub enum Punctuator {
 }
 
 impl Punctuator {
-    /// Every punctuator, once, the longer ones first.
-    const ALL: [Punctuator; 49] = [
-        Punctuator::Ellipsis,
-        Punctuator::LeftShiftAssign,
-        Punctuator::RightShiftAssign,
-        Punctuator::Arrow,
-        Punctuator::Increment,
-        Punctuator::Decrement,
-        Punctuator::LeftShift,
-        Punctuator::RightShift,
-        Punctuator::LessOrEqual,
-        Punctuator::GreaterOrEqual,
-        Punctuator::Equal,
-        Punctuator::NotEqual,
-        Punctuator::LogicalAnd,
-        Punctuator::LogicalOr,
-        Punctuator::MultiplyAssign,
-        Punctuator::DivideAssign,
-        Punctuator::RemainderAssign,
-        Punctuator::AddAssign,
-        Punctuator::SubtractAssign,
-        Punctuator::AndAssign,
-        Punctuator::XorAssign,
-        Punctuator::OrAssign,
-        Punctuator::HashHash,
-        Punctuator::DoubleColon,
-        Punctuator::OpenBracket,
-        Punctuator::CloseBracket,
-        Punctuator::OpenParenthesis,
-        Punctuator::CloseParenthesis,
-        Punctuator::OpenBrace,
-        Punctuator::CloseBrace,
-        Punctuator::Point,
-        Punctuator::Ampersand,
-        Punctuator::Star,
-        Punctuator::Plus,
-        Punctuator::Minus,
-        Punctuator::Tilde,
-        Punctuator::Exclamation,
-        Punctuator::Slash,
-        Punctuator::Percent,
-        Punctuator::Less,
-        Punctuator::Greater,
-        Punctuator::Caret,
-        Punctuator::Bar,
-        Punctuator::Question,
-        Punctuator::Colon,
-        Punctuator::Semicolon,
-        Punctuator::Assign,
-        Punctuator::Comma,
-        Punctuator::Hash,
-    ];
-
     /// How the punctuator is spelled.
     pub fn text(self) -> &'static str
         ensures { result.now ≡ punctuator_text self }
@@ -167,13 +117,47 @@ impl Punctuator {
         }
     }
 
+    /// The punctuators that begin with a byte, the longer ones first.
+    fn beginning_with(first: u8) -> &'static [Punctuator]
+        ensures { result.now ≡ punctuators_from first }
+    {
+        match first {
+            b'.' => &[Punctuator::Ellipsis, Punctuator::Point],
+            b'<' => &[Punctuator::LeftShiftAssign, Punctuator::LeftShift, Punctuator::LessOrEqual, Punctuator::Less],
+            b'>' => &[Punctuator::RightShiftAssign, Punctuator::RightShift, Punctuator::GreaterOrEqual, Punctuator::Greater],
+            b'-' => &[Punctuator::Arrow, Punctuator::Decrement, Punctuator::SubtractAssign, Punctuator::Minus],
+            b'+' => &[Punctuator::Increment, Punctuator::AddAssign, Punctuator::Plus],
+            b'=' => &[Punctuator::Equal, Punctuator::Assign],
+            b'!' => &[Punctuator::NotEqual, Punctuator::Exclamation],
+            b'&' => &[Punctuator::LogicalAnd, Punctuator::AndAssign, Punctuator::Ampersand],
+            b'|' => &[Punctuator::LogicalOr, Punctuator::OrAssign, Punctuator::Bar],
+            b'*' => &[Punctuator::MultiplyAssign, Punctuator::Star],
+            b'/' => &[Punctuator::DivideAssign, Punctuator::Slash],
+            b'%' => &[Punctuator::RemainderAssign, Punctuator::Percent],
+            b'^' => &[Punctuator::XorAssign, Punctuator::Caret],
+            b'#' => &[Punctuator::HashHash, Punctuator::Hash],
+            b':' => &[Punctuator::DoubleColon, Punctuator::Colon],
+            b'[' => &[Punctuator::OpenBracket],
+            b']' => &[Punctuator::CloseBracket],
+            b'(' => &[Punctuator::OpenParenthesis],
+            b')' => &[Punctuator::CloseParenthesis],
+            b'{' => &[Punctuator::OpenBrace],
+            b'}' => &[Punctuator::CloseBrace],
+            b'~' => &[Punctuator::Tilde],
+            b'?' => &[Punctuator::Question],
+            b';' => &[Punctuator::Semicolon],
+            b',' => &[Punctuator::Comma],
+            _ => &[],
+        }
+    }
+
     /// The longest punctuator that begins the bytes.
     pub(crate) fn at_front(bytes: &[u8]) -> Option<Self>
         ensures { IsAtFront bytes.now result }
     {
-        for punctuator in Punctuator::ALL {
+        for punctuator in Punctuator::beginning_with(byte_at(bytes, 0)) {
             if bytes.starts_with(punctuator.text().as_bytes()) {
-                return Some(punctuator);
+                return Some(*punctuator);
             }
         }
         None

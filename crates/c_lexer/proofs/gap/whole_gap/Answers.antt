@@ -1,4 +1,4 @@
-use Rattle.std.proofs.Common.{◌+◌, ◌-◌, suc, length, take, drop, sym, ap, ◌∙◌, subst, arith, ◌≡◌, List, ℕ}
+use Rattle.std.proofs.Common.{◌+◌, ◌-◌, [], ◌∷◌, ◌++◌, length, take, drop, sym, ap, ◌∙◌, subst, arith, ◌≡◌, List, ℕ}
 use Rattle.std.proofs.lemmas.List.{take_rest, drop-drop, length-drop}
 use Rattle.c_lexer.specs.Comments.{GapBegins}
 use Rattle.c_lexer.proofs.Gaps.{gap_more}
@@ -15,7 +15,7 @@ loop-length-preserved c =
     record {
       within = omega (arith, found.1, ap length rest, length-drop at bytes, c.loop-length.invariant.within);
       passed = (
-        suc c.loop-length.invariant.passed.0,
+        c.loop-length.invariant.passed.0 ++ drop (at + n) bytes ∷ [],
         gap_more c.loop-length.invariant.passed.0 bytes (drop at bytes) (drop (at + n) bytes) c.loop-length.invariant.passed.1
             (subst (λ l. GapBegins l (drop (at + n) bytes)) rest (subst (GapBegins (take (length bytes - at) (drop at bytes))) back found.2)),
       );
