@@ -1,7 +1,7 @@
 -- The class of a spelling: a word, a number, a string, a character constant, or a punctuator.
 use Rattle.std.proofs.Common.{ℕ, cond, eqb, List, get_or}
 use Rattle.c_lexer.specs.Bytes.{is_letter}
-use Rattle.c_lexer.specs.Scanning.{begins_number}
+use Rattle.c_lexer.specs.Scanning.Tokens.{begins_number}
 
 abbrev pub class_of_text : List ℕ → ℕ
 class_of_text text =

@@ -8,11 +8,13 @@ use Rattle.c_lexer.specs.declared.token.TokenKind.{TokenKind}
 use Rattle.c_lexer.specs.declared.token.TokenKind.TheVariants as kinds
 use Rattle.c_lexer.specs.Bytes.{is_blank}
 use Rattle.c_lexer.specs.Spelling.{is_word, Spells}
-use Rattle.c_lexer.specs.Tokens.{Begins}
+use Rattle.c_lexer.specs.LongestMatch.{Begins}
 use Rattle.c_lexer.specs.Comments.{is_line_end, IsBehindGap}
 use Rattle.c_lexer.specs.Headers.{header_text}
 use Rattle.c_lexer.specs.Directives.{TokenBehindGap, EndsLine, is_constant}
-use Rattle.c_lexer.specs.Scanning.{NoTokenBegins, IsLocated, begins_blank, is_identifier, is_word_kind, IsHeaderLine}
+use Rattle.c_lexer.specs.Scanning.Tokens.{NoTokenBegins, is_identifier, is_word_kind}
+use Rattle.c_lexer.specs.Scanning.Comments.{begins_blank}
+use Rattle.c_lexer.specs.Scanning.Directives.{IsLocated, IsHeaderLine}
 use Rattle.c_lexer.proofs.Keywords.{is_word-keyword_text}
 use Rattle.c_lexer.proofs.Gaps.{same_behind}
 use Rattle.c_lexer.proofs.Scans.{looks_token}

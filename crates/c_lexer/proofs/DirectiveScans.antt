@@ -12,11 +12,13 @@ use Rattle.c_lexer.specs.declared.directive.FoundDirective.{FoundDirective}
 use Rattle.c_lexer.specs.declared.directive.DirectiveKind.TheVariants as directives
 use Rattle.c_lexer.specs.Bytes.{is_blank, is_letter, is_digit}
 use Rattle.c_lexer.specs.Punctuator.{punctuator_text}
-use Rattle.c_lexer.specs.Tokens.{Begins}
+use Rattle.c_lexer.specs.LongestMatch.{Begins}
 use Rattle.c_lexer.specs.Comments.{IsGap, IsBehindGap, GapBegins}
 use Rattle.c_lexer.specs.Headers.{header_text}
 use Rattle.c_lexer.specs.Directives.{Directive, Include, Define, TokenBehindGap, EndsLine, IsInclude, IsDefine, DirectiveBegins}
-use Rattle.c_lexer.specs.Scanning.{IsHeaderLine, IsConstantLine, IsDefinitionLine, FollowsHash, IsIncludeBehind, IsDefineBehind, IsDirectiveBody, directive_in, AreWithin}
+use Rattle.c_lexer.specs.Scanning.Directives.{IsHeaderLine, IsConstantLine, IsDefinitionLine, FollowsHash}
+use Rattle.c_lexer.specs.Scanning.Directives.{IsIncludeBehind, IsDefineBehind, IsDirectiveBody, directive_in}
+use Rattle.c_lexer.specs.Scanning.Directives.{AreWithin}
 use Rattle.c_lexer.proofs.Punctuators.{hash_or_two}
 use Rattle.c_lexer.proofs.Lists.{first_of_front}
 use Rattle.c_lexer.proofs.Classes.{class_of_text}

@@ -12,11 +12,13 @@ use Rattle.c_lexer.specs.declared.scanner.Unread.TheVariants as unreads
 use Rattle.c_lexer.specs.declared.element.Found.{Found}
 use Rattle.c_lexer.specs.Bytes.{is_blank, is_bad_byte, is_digit, is_line_byte}
 use Rattle.c_lexer.specs.Spelling.{Spells}
-use Rattle.c_lexer.specs.Tokens.{Begins}
+use Rattle.c_lexer.specs.LongestMatch.{Begins}
 use Rattle.c_lexer.specs.Comments.{CommentBegins}
 use Rattle.c_lexer.specs.Directives.{Directive, DirectiveBegins}
-use Rattle.c_lexer.specs.Elements.{Kind, Blank, Comment, Line, Lexed, ElementBegins, NoElementBegins}
-use Rattle.c_lexer.specs.Scanning.{NoTokenBegins, OpensAs, OpensToken, CanOpen, IsFound, IsHashFound, IsLine, FollowsHash, kind_in}
+use Rattle.c_lexer.specs.Elements.{ElementKind, Blank, Comment, DirectiveLine, SingleToken, ElementBegins, NoElementBegins}
+use Rattle.c_lexer.specs.Scanning.Tokens.{NoTokenBegins, OpensAs, OpensToken}
+use Rattle.c_lexer.specs.Scanning.Directives.{FollowsHash}
+use Rattle.c_lexer.specs.Scanning.Elements.{CanOpen, IsFound, IsHashFound, IsLine, kind_in}
 use Rattle.c_lexer.proofs.Gaps.{line_found}
 use Rattle.c_lexer.proofs.Scans.{looks_token}
 use Rattle.c_lexer.proofs.Uniqueness.{same_begins}
@@ -53,20 +55,20 @@ opens_as unreads.Directive bytes opens = absurd opens
 none_begins : (fresh : Bool) (bytes : List ℕ) (unread : Unread) → is_blank (get_or bytes 0 0) ≡ false → ((text rest : List ℕ) → CommentBegins bytes text rest → ⊥) → NoTokenBegins bytes → OpensToken unread bytes → NoElementBegins (fresh ≡ true) bytes
 none_begins fresh bytes unread blank comment none opens Blank text rest begins = no_both blank (blank_first bytes rest begins.0 begins.1 begins.3)
 none_begins fresh bytes unread blank comment none opens Comment text rest begins = comment text rest begins
-none_begins fresh bytes unread blank comment none opens (Line d) text rest begins =
+none_begins fresh bytes unread blank comment none opens (DirectiveLine d) text rest begins =
     hash_unopened unread bytes (ap (λ l. get_or l 0 0) (hash_first bytes d rest begins.2).1) opens
-none_begins fresh bytes unread blank comment none opens (Lexed kind) text rest begins = none kind text rest begins.0
+none_begins fresh bytes unread blank comment none opens (SingleToken kind) text rest begins = none kind text rest begins.0
 
 pub none_unread : (fresh : Bool) (bytes : List ℕ) (unread : Unread) → is_blank (get_or bytes 0 0) ≡ false → ((text rest : List ℕ) → CommentBegins bytes text rest → ⊥) → NoTokenBegins bytes × OpensToken unread bytes → NoElementBegins (fresh ≡ true) bytes × OpensAs unread bytes
 none_unread fresh bytes unread blank comment scanned = (none_begins fresh bytes unread blank comment scanned.0 scanned.1, opens_as unread bytes scanned.1)
 
 -- ---- the `#` of a directive
 
-line_begins : (fresh : Bool) (bytes text rest : List ℕ) (kind : Kind) → fresh ≡ true → bytes ≡ text ++ rest → IsLine bytes kind rest → ElementBegins (fresh ≡ true) bytes kind text rest
+line_begins : (fresh : Bool) (bytes text rest : List ℕ) (kind : ElementKind) → fresh ≡ true → bytes ≡ text ++ rest → IsLine bytes kind rest → ElementBegins (fresh ≡ true) bytes kind text rest
 line_begins fresh bytes text rest Blank is_fresh split line = absurd line
 line_begins fresh bytes text rest Comment is_fresh split line = absurd line
-line_begins fresh bytes text rest (Line d) is_fresh split line = (is_fresh, split, line)
-line_begins fresh bytes text rest (Lexed kind) is_fresh split line = absurd line
+line_begins fresh bytes text rest (DirectiveLine d) is_fresh split line = (is_fresh, split, line)
+line_begins fresh bytes text rest (SingleToken kind) is_fresh split line = absurd line
 
 first_hash : (bytes : List ℕ) → 0 < length bytes → get_or bytes 0 0 ≡ 35 → (after : List ℕ) × (bytes ≡ 35 ∷ after)
 first_hash [] some hash = absurd (omega arith)
@@ -76,8 +78,8 @@ none_at_hash : (fresh : Bool) (bytes : List ℕ) (token : TokenKind) → fresh �
     → ((d : Directive) (rest : List ℕ) → DirectiveBegins bytes d rest → ⊥) → NoElementBegins (fresh ≡ true) bytes
 none_at_hash fresh bytes token is_fresh some hash begins comment none Blank text rest blank = no_both (ap is_blank hash) (blank_first bytes rest blank.0 blank.1 blank.3)
 none_at_hash fresh bytes token is_fresh some hash begins comment none Comment text rest other = comment text rest other
-none_at_hash fresh bytes token is_fresh some hash begins comment none (Line d) text rest line = none d rest line.2
-none_at_hash fresh bytes token is_fresh some hash begins comment none (Lexed kind) text rest lexed =
+none_at_hash fresh bytes token is_fresh some hash begins comment none (DirectiveLine d) text rest line = none d rest line.2
+none_at_hash fresh bytes token is_fresh some hash begins comment none (SingleToken kind) text rest lexed =
     let at = first_hash bytes some hash in
     let same = same_begins bytes kind token text (take 1 bytes) rest (drop 1 bytes) lexed.0 begins in
     ⊎_elim
@@ -97,7 +99,7 @@ spelled_hash kind text begins is = subst (λ k. Spells k text) is begins.spelled
 
 -- a token that is no directive's `#`
 pub lexed_found : (fresh : Bool) (bytes : List ℕ) (kind : TokenKind) (n : ℕ) → n ≤ length bytes → Begins bytes kind (take n bytes) (drop n bytes) → (fresh && (eqb n 1 && eqb (get_or bytes 0 0) 35)) ≡ false
-    → ElementBegins (fresh ≡ true) bytes (Lexed kind) (take n bytes) (drop n bytes)
+    → ElementBegins (fresh ≡ true) bytes (SingleToken kind) (take n bytes) (drop n bytes)
 lexed_found fresh bytes kind n inside begins fails = (
   begins,
   λ is_fresh is_hash.

@@ -11,9 +11,9 @@ use Rattle.c_lexer.specs.Bytes.{is_blank, is_bad_byte, is_digit}
 use Rattle.c_lexer.specs.Comments.{CommentBegins}
 use Rattle.c_lexer.specs.Directives.{Directive, Include, Define, DirectiveBegins, HasName}
 use Rattle.c_lexer.specs.TokenLists.{TokenLists}
-use Rattle.c_lexer.specs.Elements.{Kind, Blank, Comment, Line, Lexed, Element, AreBeforeLine, bytes_of, ElementBegins, NoElementBegins, AreElements, tokens_of, includes_of}
+use Rattle.c_lexer.specs.Elements.{ElementKind, Blank, Comment, DirectiveLine, SingleToken, Element, AreBeforeLine, bytes_of, ElementBegins, NoElementBegins, AreElements, tokens_of, includes_of}
 use Rattle.c_lexer.specs.Files.{AreTokensOf, Opens, IsFaultOf}
-use Rattle.c_lexer.specs.Scanning.{begins_comment}
+use Rattle.c_lexer.specs.Scanning.Tokens.{begins_comment}
 use Rattle.c_lexer.proofs.Lists.{same_fronts}
 use Rattle.c_lexer.proofs.Gaps.{looks_comment, same_comment}
 use Rattle.c_lexer.proofs.PunctuatorScans.{no_token_at_comment}
@@ -21,7 +21,7 @@ use Rattle.c_lexer.proofs.Uniqueness.{same_begins}
 use Rattle.c_lexer.proofs.DirectiveLaws.{token_unblank, same_token_behind}
 use Rattle.c_lexer.proofs.DirectiveScans.{same_directive, hash_token}
 
-pub record SameElement (k l : Kind) (t u q r : List ℕ) : Type 0 where
+pub record SameElement (k l : ElementKind) (t u q r : List ℕ) : Type 0 where
   pub kind : k ≡ l
   pub text : t ≡ u
   pub rest : q ≡ r
@@ -58,30 +58,30 @@ same_text t u q r same rest =
     (same_fronts t q u r same (omega (arith, ap length same, ap length rest, length-append t q, length-append u r))).0
 
 -- one element begins the bytes, at most
-pub same_element : (First : Type 0) (bytes : List ℕ) (k l : Kind) (t u q r : List ℕ) → ElementBegins First bytes k t q → ElementBegins First bytes l u r → SameElement k l t u q r
+pub same_element : (First : Type 0) (bytes : List ℕ) (k l : ElementKind) (t u q r : List ℕ) → ElementBegins First bytes k t q → ElementBegins First bytes l u r → SameElement k l t u q r
 same_element First bytes Blank Blank t u q r left right =
     let same : left.0 ∷ q ≡ right.0 ∷ r = sym left.3 ∙ right.3 in
     record { kind = refl; text = left.2 ∙ ap (λ n. n ∷ []) (ap (λ l. get_or l 0 0) same) ∙ sym right.2; rest = ap (drop 1) same }
 same_element First bytes Blank Comment t u q r left right = absurd (no_both (slash_no_blank bytes u r right) (blank_first bytes q left.0 left.1 left.3))
-same_element First bytes Blank (Line d) t u q r left right = absurd (no_both (hash_no_blank bytes d r right.2) (blank_first bytes q left.0 left.1 left.3))
-same_element First bytes Blank (Lexed kind) t u q r left right = absurd (no_both (token_unblank bytes kind u r right.0).no_blank (blank_first bytes q left.0 left.1 left.3))
+same_element First bytes Blank (DirectiveLine d) t u q r left right = absurd (no_both (hash_no_blank bytes d r right.2) (blank_first bytes q left.0 left.1 left.3))
+same_element First bytes Blank (SingleToken kind) t u q r left right = absurd (no_both (token_unblank bytes kind u r right.0).no_blank (blank_first bytes q left.0 left.1 left.3))
 same_element First bytes Comment Blank t u q r left right = absurd (no_both (slash_no_blank bytes t q left) (blank_first bytes r right.0 right.1 right.3))
 same_element First bytes Comment Comment t u q r left right = let same = same_comment bytes t q u r left right in record { kind = refl; text = same.0; rest = same.1 }
-same_element First bytes Comment (Line d) t u q r left right = absurd (hash_no_slash bytes t q r d right.2 left)
-same_element First bytes Comment (Lexed kind) t u q r left right = absurd (no_token_at_comment bytes (comment_begins bytes t q left) kind u r right.0)
-same_element First bytes (Line d) Blank t u q r left right = absurd (no_both (hash_no_blank bytes d q left.2) (blank_first bytes r right.0 right.1 right.3))
-same_element First bytes (Line d) Comment t u q r left right = absurd (hash_no_slash bytes u r q d left.2 right)
-same_element First bytes (Line d) (Line e) t u q r left right =
+same_element First bytes Comment (DirectiveLine d) t u q r left right = absurd (hash_no_slash bytes t q r d right.2 left)
+same_element First bytes Comment (SingleToken kind) t u q r left right = absurd (no_token_at_comment bytes (comment_begins bytes t q left) kind u r right.0)
+same_element First bytes (DirectiveLine d) Blank t u q r left right = absurd (no_both (hash_no_blank bytes d q left.2) (blank_first bytes r right.0 right.1 right.3))
+same_element First bytes (DirectiveLine d) Comment t u q r left right = absurd (hash_no_slash bytes u r q d left.2 right)
+same_element First bytes (DirectiveLine d) (DirectiveLine e) t u q r left right =
     let same = same_directive bytes d e q r left.2 right.2 in
     let rest : q ≡ r = same.rest in
-    record { kind = ap (λ x. Line x) same.directive; text = same_text t u q r (sym left.1 ∙ right.1) rest; rest = rest }
-same_element First bytes (Line d) (Lexed kind) t u q r left right = absurd (right.1 left.0 (hash_token bytes d q kind u r left.2 right.0))
-same_element First bytes (Lexed kind) Blank t u q r left right = absurd (no_both (token_unblank bytes kind t q left.0).no_blank (blank_first bytes r right.0 right.1 right.3))
-same_element First bytes (Lexed kind) Comment t u q r left right = absurd (no_token_at_comment bytes (comment_begins bytes u r right) kind t q left.0)
-same_element First bytes (Lexed kind) (Line e) t u q r left right = absurd (left.1 right.0 (hash_token bytes e r kind t q right.2 left.0))
-same_element First bytes (Lexed a) (Lexed b) t u q r left right =
+    record { kind = ap (λ x. DirectiveLine x) same.directive; text = same_text t u q r (sym left.1 ∙ right.1) rest; rest = rest }
+same_element First bytes (DirectiveLine d) (SingleToken kind) t u q r left right = absurd (right.1 left.0 (hash_token bytes d q kind u r left.2 right.0))
+same_element First bytes (SingleToken kind) Blank t u q r left right = absurd (no_both (token_unblank bytes kind t q left.0).no_blank (blank_first bytes r right.0 right.1 right.3))
+same_element First bytes (SingleToken kind) Comment t u q r left right = absurd (no_token_at_comment bytes (comment_begins bytes u r right) kind t q left.0)
+same_element First bytes (SingleToken kind) (DirectiveLine e) t u q r left right = absurd (left.1 right.0 (hash_token bytes e r kind t q right.2 left.0))
+same_element First bytes (SingleToken a) (SingleToken b) t u q r left right =
     let same = same_begins bytes a b t u q r left.0 right.0 in
-    record { kind = ap (λ x. Lexed x) same.kind; text = same.text; rest = same.rest }
+    record { kind = ap (λ x. SingleToken x) same.kind; text = same.text; rest = same.rest }
 
 pub record Same (es fs : List Element) (q r : List ℕ) : Type 0 where
   pub elements : es ≡ fs
@@ -121,8 +121,8 @@ cons_no_nil b bs e = cc
 pub none_at_end : (First : Type 0) → NoElementBegins First []
 none_at_end First Blank text rest begins = cons_no_nil begins.0 rest (sym begins.3)
 none_at_end First Comment text rest begins = omega (arith, (looks_comment [] text rest begins).long)
-none_at_end First (Line d) text rest begins = let hash = hash_first [] d rest begins.2 in cons_no_nil 35 hash.0 (sym hash.1)
-none_at_end First (Lexed kind) text rest begins = omega (arith, (token_unblank [] kind text rest begins.0).some)
+none_at_end First (DirectiveLine d) text rest begins = let hash = hash_first [] d rest begins.2 in cons_no_nil 35 hash.0 (sym hash.1)
+none_at_end First (SingleToken kind) text rest begins = omega (arith, (token_unblank [] kind text rest begins.0).some)
 
 -- two lists of elements behind which none begins are the same
 pub same_whole : (bytes : List ℕ) (es fs : List Element) (q r : List ℕ) → AreElements bytes es q → NoElementBegins (AreBeforeLine es) q → AreElements bytes fs r → NoElementBegins (AreBeforeLine fs) r → Same es fs q r

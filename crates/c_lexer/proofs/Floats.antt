@@ -8,7 +8,7 @@ use Rattle.std.proofs.lemmas.List.Sums.{prefix_len-le-length}
 use Rattle.c_lexer.specs.declared.token.IntegerBase.{IntegerBase}
 use Rattle.c_lexer.specs.Bytes.{is_digit}
 use Rattle.c_lexer.specs.Floating.{is_exponent_mark, is_sign, IsExponent}
-use Rattle.c_lexer.specs.Scanning.{IsLongest}
+use Rattle.c_lexer.specs.Scanning.Numbers.{IsLongest}
 use Rattle.c_lexer.proofs.Lists.{length-le-prefix_len, list_all-take_prefix}
 
 -- ---- exponents

@@ -8,7 +8,7 @@ use Rattle.std.proofs.lemmas.List.Prefix.{front_reads}
 use Rattle.c_lexer.specs.declared.token.IntegerBase.TheVariants as bases
 use Rattle.c_lexer.specs.Bytes.{is_digit}
 use Rattle.c_lexer.specs.Floating.{is_exponent_mark, IsExponent, IsDecimalFloating, IsFloating}
-use Rattle.c_lexer.specs.Scanning.{IsLongestScaled, begins_hexadecimal}
+use Rattle.c_lexer.specs.Scanning.Numbers.{IsLongestScaled, begins_hexadecimal}
 use Rattle.c_lexer.proofs.Lexemes.{or_parts}
 
 abbrev is_x : ℕ → Bool

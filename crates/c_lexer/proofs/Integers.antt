@@ -14,7 +14,7 @@ use Rattle.c_lexer.specs.declared.token.IntegerBase.TheVariants as bases
 use Rattle.c_lexer.specs.declared.token.IntegerConstant.{IntegerConstant}
 use Rattle.c_lexer.specs.Bytes.{is_digit, is_octal_digit}
 use Rattle.c_lexer.specs.Integers.{radix, is_digit_of, suffix_of, leads_with_zero, HasPrefix, IsInteger}
-use Rattle.c_lexer.specs.Scanning.{IsBase, begins_hexadecimal, begins_octal}
+use Rattle.c_lexer.specs.Scanning.Numbers.{IsBase, begins_hexadecimal, begins_octal}
 use Rattle.c_lexer.proofs.Lists.{prefix_len_at, list_all-take_prefix, list_all-weaker}
 use Rattle.c_lexer.proofs.Lexemes.{is_suffix_byte, is_plain_byte, suffix_bytes, decimal_is_plain, octal_is_plain, octal_is_digit, suffix_is_plain, list_all_join, or_parts}
 

@@ -4,56 +4,13 @@ use Rattle.std.proofs.lemmas.Bool.{ltb-true, cases_eq}
 use Rattle.std.specs.List.{fold}
 use Rattle.c_lexer.specs.declared.keyword.Keyword.{Keyword}
 use Rattle.c_lexer.specs.declared.keyword.Keyword.TheVariants as keywords
-use Rattle.c_lexer.specs.Beginnings.{keywords_from}
+use Rattle.c_lexer.specs.Scanning.Keywords.{keywords_from}
 use Rattle.c_lexer.specs.Keyword.{keyword_text}
 use Rattle.c_lexer.specs.Spelling.{is_word}
 
 pub is_word-keyword_text : (keyword : Keyword) → is_word (keyword_text keyword) ≡ true
 is_word-keyword_text keywords.Auto = refl
-is_word-keyword_text keywords.Break = refl
-is_word-keyword_text keywords.Case = refl
-is_word-keyword_text keywords.Char = refl
-is_word-keyword_text keywords.Const = refl
-is_word-keyword_text keywords.Continue = refl
-is_word-keyword_text keywords.Default = refl
-is_word-keyword_text keywords.Do = refl
-is_word-keyword_text keywords.Double = refl
-is_word-keyword_text keywords.Else = refl
-is_word-keyword_text keywords.Enum = refl
-is_word-keyword_text keywords.Extern = refl
-is_word-keyword_text keywords.Float = refl
-is_word-keyword_text keywords.For = refl
-is_word-keyword_text keywords.Goto = refl
-is_word-keyword_text keywords.If = refl
-is_word-keyword_text keywords.Inline = refl
-is_word-keyword_text keywords.Int = refl
-is_word-keyword_text keywords.Long = refl
-is_word-keyword_text keywords.Register = refl
-is_word-keyword_text keywords.Restrict = refl
-is_word-keyword_text keywords.Return = refl
-is_word-keyword_text keywords.Short = refl
-is_word-keyword_text keywords.Signed = refl
-is_word-keyword_text keywords.Sizeof = refl
-is_word-keyword_text keywords.Static = refl
-is_word-keyword_text keywords.Struct = refl
-is_word-keyword_text keywords.Switch = refl
-is_word-keyword_text keywords.Typedef = refl
-is_word-keyword_text keywords.Union = refl
-is_word-keyword_text keywords.Unsigned = refl
-is_word-keyword_text keywords.Void = refl
-is_word-keyword_text keywords.Volatile = refl
-is_word-keyword_text keywords.While = refl
-is_word-keyword_text keywords.Alignas = refl
-is_word-keyword_text keywords.Alignof = refl
-is_word-keyword_text keywords.Atomic = refl
-is_word-keyword_text keywords.Bool = refl
-is_word-keyword_text keywords.Complex = refl
-is_word-keyword_text keywords.Generic = refl
-is_word-keyword_text keywords.Imaginary = refl
-is_word-keyword_text keywords.Noreturn = refl
-is_word-keyword_text keywords.StaticAssert = refl
-is_word-keyword_text keywords.ThreadLocal = refl
-is_word-keyword_text keywords.Asm = refl
+is_word-keyword_text other = refl
 
 -- a word as one number
 abbrev number_of : List ℕ → ℕ
@@ -110,50 +67,7 @@ keyword_at n =
 
 keyword_at-text : (keyword : Keyword) → keyword_at (number_of (keyword_text keyword)) ≡ keyword
 keyword_at-text keywords.Auto = refl
-keyword_at-text keywords.Break = refl
-keyword_at-text keywords.Case = refl
-keyword_at-text keywords.Char = refl
-keyword_at-text keywords.Const = refl
-keyword_at-text keywords.Continue = refl
-keyword_at-text keywords.Default = refl
-keyword_at-text keywords.Do = refl
-keyword_at-text keywords.Double = refl
-keyword_at-text keywords.Else = refl
-keyword_at-text keywords.Enum = refl
-keyword_at-text keywords.Extern = refl
-keyword_at-text keywords.Float = refl
-keyword_at-text keywords.For = refl
-keyword_at-text keywords.Goto = refl
-keyword_at-text keywords.If = refl
-keyword_at-text keywords.Inline = refl
-keyword_at-text keywords.Int = refl
-keyword_at-text keywords.Long = refl
-keyword_at-text keywords.Register = refl
-keyword_at-text keywords.Restrict = refl
-keyword_at-text keywords.Return = refl
-keyword_at-text keywords.Short = refl
-keyword_at-text keywords.Signed = refl
-keyword_at-text keywords.Sizeof = refl
-keyword_at-text keywords.Static = refl
-keyword_at-text keywords.Struct = refl
-keyword_at-text keywords.Switch = refl
-keyword_at-text keywords.Typedef = refl
-keyword_at-text keywords.Union = refl
-keyword_at-text keywords.Unsigned = refl
-keyword_at-text keywords.Void = refl
-keyword_at-text keywords.Volatile = refl
-keyword_at-text keywords.While = refl
-keyword_at-text keywords.Alignas = refl
-keyword_at-text keywords.Alignof = refl
-keyword_at-text keywords.Atomic = refl
-keyword_at-text keywords.Bool = refl
-keyword_at-text keywords.Complex = refl
-keyword_at-text keywords.Generic = refl
-keyword_at-text keywords.Imaginary = refl
-keyword_at-text keywords.Noreturn = refl
-keyword_at-text keywords.StaticAssert = refl
-keyword_at-text keywords.ThreadLocal = refl
-keyword_at-text keywords.Asm = refl
+keyword_at-text other = refl
 
 pub keyword_text_injective : (a b : Keyword) → keyword_text a ≡ keyword_text b → a ≡ b
 keyword_text_injective a b same = sym (keyword_at-text a) ∙ ap (λ word. keyword_at (number_of word)) same ∙ keyword_at-text b

@@ -15,8 +15,9 @@ use Rattle.c_lexer.specs.declared.token.TokenKind.TheVariants as kinds
 use Rattle.c_lexer.specs.Bytes.{is_digit, is_letter, is_word_byte, is_hexadecimal_digit}
 use Rattle.c_lexer.specs.Integers.{is_digit_of, is_u, is_l, suffix_of, HasPrefix, IsInteger}
 use Rattle.c_lexer.specs.Floating.{is_exponent_mark, IsScaled, IsFloating}
-use Rattle.c_lexer.specs.Spelling.{is_word, is_number_word, IsNumberLike, IsCharacter, Spells}
-use Rattle.c_lexer.specs.Scanning.{begins_number}
+use Rattle.c_lexer.specs.Characters.{IsCharacter}
+use Rattle.c_lexer.specs.Spelling.{is_word, is_number_word, IsNumberLike, Spells}
+use Rattle.c_lexer.specs.Scanning.Tokens.{begins_number}
 use Rattle.c_lexer.proofs.Keywords.{is_word-keyword_text}
 use Rattle.c_lexer.proofs.Classes.{class_of_text}
 use Rattle.c_lexer.proofs.Punctuators.{punctuator_class}

@@ -12,10 +12,10 @@ use Rattle.c_lexer.specs.declared.token.TokenKind.{TokenKind}
 use Rattle.c_lexer.specs.declared.token.TokenKind.TheVariants as kinds
 use Rattle.c_lexer.specs.declared.scanner.Unread.TheVariants as unreads
 use Rattle.c_lexer.specs.Bytes.{is_letter, is_digit, is_blank, is_bad_byte}
-use Rattle.c_lexer.specs.Beginnings.{punctuators_from}
+use Rattle.c_lexer.specs.Scanning.Tokens.{NoTokenBegins, OpensAs, begins_number, begins_comment, BeginsOtherwise}
+use Rattle.c_lexer.specs.Scanning.Punctuators.{IsAtFront, punctuators_from}
 use Rattle.c_lexer.specs.Punctuator.{punctuator_text}
-use Rattle.c_lexer.specs.Tokens.{Begins}
-use Rattle.c_lexer.specs.Scanning.{NoTokenBegins, OpensAs, IsAtFront, begins_number, begins_comment, BeginsOtherwise}
+use Rattle.c_lexer.specs.LongestMatch.{Begins}
 use Rattle.c_lexer.proofs.Punctuators.{all_below, all_below-at, place_of, group_of, at_place, in_group, some_text, as_long_before, punctuator_no_comment}
 use Rattle.c_lexer.proofs.Lists.{first_of_front}
 use Rattle.c_lexer.proofs.Classes.{class_of_text}

@@ -4,10 +4,10 @@ use Rattle.std.proofs.lemmas.Bool.{false≢true, and_parts, cases_eq}
 use Rattle.std.specs.List.{fold, list_all}
 use Rattle.c_lexer.specs.declared.punctuator.Punctuator.{Punctuator}
 use Rattle.c_lexer.specs.declared.punctuator.Punctuator.TheVariants as punctuators
-use Rattle.c_lexer.specs.Beginnings.{punctuators_from}
+use Rattle.c_lexer.specs.Scanning.Tokens.{begins_comment}
+use Rattle.c_lexer.specs.Scanning.Punctuators.{punctuators_from}
 use Rattle.c_lexer.specs.Punctuator.{punctuator_text}
 use Rattle.c_lexer.specs.Bytes.{is_digit, is_word_byte, is_blank}
-use Rattle.c_lexer.specs.Scanning.{begins_comment}
 use Rattle.c_lexer.proofs.Classes.{class_of_text}
 
 unfoldable pub all_below : ℕ → (ℕ → Bool) → Bool
@@ -29,208 +29,20 @@ looks_so text =
 
 pub punctuator_looks : (punctuator : Punctuator) → looks_so (punctuator_text punctuator) ≡ true
 punctuator_looks punctuators.Ellipsis = refl
-punctuator_looks punctuators.LeftShiftAssign = refl
-punctuator_looks punctuators.RightShiftAssign = refl
-punctuator_looks punctuators.Arrow = refl
-punctuator_looks punctuators.Increment = refl
-punctuator_looks punctuators.Decrement = refl
-punctuator_looks punctuators.LeftShift = refl
-punctuator_looks punctuators.RightShift = refl
-punctuator_looks punctuators.LessOrEqual = refl
-punctuator_looks punctuators.GreaterOrEqual = refl
-punctuator_looks punctuators.Equal = refl
-punctuator_looks punctuators.NotEqual = refl
-punctuator_looks punctuators.LogicalAnd = refl
-punctuator_looks punctuators.LogicalOr = refl
-punctuator_looks punctuators.MultiplyAssign = refl
-punctuator_looks punctuators.DivideAssign = refl
-punctuator_looks punctuators.RemainderAssign = refl
-punctuator_looks punctuators.AddAssign = refl
-punctuator_looks punctuators.SubtractAssign = refl
-punctuator_looks punctuators.AndAssign = refl
-punctuator_looks punctuators.XorAssign = refl
-punctuator_looks punctuators.OrAssign = refl
-punctuator_looks punctuators.HashHash = refl
-punctuator_looks punctuators.DoubleColon = refl
-punctuator_looks punctuators.OpenBracket = refl
-punctuator_looks punctuators.CloseBracket = refl
-punctuator_looks punctuators.OpenParenthesis = refl
-punctuator_looks punctuators.CloseParenthesis = refl
-punctuator_looks punctuators.OpenBrace = refl
-punctuator_looks punctuators.CloseBrace = refl
-punctuator_looks punctuators.Point = refl
-punctuator_looks punctuators.Ampersand = refl
-punctuator_looks punctuators.Star = refl
-punctuator_looks punctuators.Plus = refl
-punctuator_looks punctuators.Minus = refl
-punctuator_looks punctuators.Tilde = refl
-punctuator_looks punctuators.Exclamation = refl
-punctuator_looks punctuators.Slash = refl
-punctuator_looks punctuators.Percent = refl
-punctuator_looks punctuators.Less = refl
-punctuator_looks punctuators.Greater = refl
-punctuator_looks punctuators.Caret = refl
-punctuator_looks punctuators.Bar = refl
-punctuator_looks punctuators.Question = refl
-punctuator_looks punctuators.Colon = refl
-punctuator_looks punctuators.Semicolon = refl
-punctuator_looks punctuators.Assign = refl
-punctuator_looks punctuators.Comma = refl
-punctuator_looks punctuators.Hash = refl
+punctuator_looks other = refl
 
 pub punctuator_class : (punctuator : Punctuator) → class_of_text (punctuator_text punctuator) ≡ 4
 punctuator_class punctuators.Ellipsis = refl
-punctuator_class punctuators.LeftShiftAssign = refl
-punctuator_class punctuators.RightShiftAssign = refl
-punctuator_class punctuators.Arrow = refl
-punctuator_class punctuators.Increment = refl
-punctuator_class punctuators.Decrement = refl
-punctuator_class punctuators.LeftShift = refl
-punctuator_class punctuators.RightShift = refl
-punctuator_class punctuators.LessOrEqual = refl
-punctuator_class punctuators.GreaterOrEqual = refl
-punctuator_class punctuators.Equal = refl
-punctuator_class punctuators.NotEqual = refl
-punctuator_class punctuators.LogicalAnd = refl
-punctuator_class punctuators.LogicalOr = refl
-punctuator_class punctuators.MultiplyAssign = refl
-punctuator_class punctuators.DivideAssign = refl
-punctuator_class punctuators.RemainderAssign = refl
-punctuator_class punctuators.AddAssign = refl
-punctuator_class punctuators.SubtractAssign = refl
-punctuator_class punctuators.AndAssign = refl
-punctuator_class punctuators.XorAssign = refl
-punctuator_class punctuators.OrAssign = refl
-punctuator_class punctuators.HashHash = refl
-punctuator_class punctuators.DoubleColon = refl
-punctuator_class punctuators.OpenBracket = refl
-punctuator_class punctuators.CloseBracket = refl
-punctuator_class punctuators.OpenParenthesis = refl
-punctuator_class punctuators.CloseParenthesis = refl
-punctuator_class punctuators.OpenBrace = refl
-punctuator_class punctuators.CloseBrace = refl
-punctuator_class punctuators.Point = refl
-punctuator_class punctuators.Ampersand = refl
-punctuator_class punctuators.Star = refl
-punctuator_class punctuators.Plus = refl
-punctuator_class punctuators.Minus = refl
-punctuator_class punctuators.Tilde = refl
-punctuator_class punctuators.Exclamation = refl
-punctuator_class punctuators.Slash = refl
-punctuator_class punctuators.Percent = refl
-punctuator_class punctuators.Less = refl
-punctuator_class punctuators.Greater = refl
-punctuator_class punctuators.Caret = refl
-punctuator_class punctuators.Bar = refl
-punctuator_class punctuators.Question = refl
-punctuator_class punctuators.Colon = refl
-punctuator_class punctuators.Semicolon = refl
-punctuator_class punctuators.Assign = refl
-punctuator_class punctuators.Comma = refl
-punctuator_class punctuators.Hash = refl
+punctuator_class other = refl
 
 -- one that begins with a point has no digit behind it
 pub punctuator_no_number : (punctuator : Punctuator) → (ltb (length (punctuator_text punctuator)) 2 || not (eqb (get_or (punctuator_text punctuator) 0 0) 46 && is_digit (get_or (punctuator_text punctuator) 1 0))) ≡ true
 punctuator_no_number punctuators.Ellipsis = refl
-punctuator_no_number punctuators.LeftShiftAssign = refl
-punctuator_no_number punctuators.RightShiftAssign = refl
-punctuator_no_number punctuators.Arrow = refl
-punctuator_no_number punctuators.Increment = refl
-punctuator_no_number punctuators.Decrement = refl
-punctuator_no_number punctuators.LeftShift = refl
-punctuator_no_number punctuators.RightShift = refl
-punctuator_no_number punctuators.LessOrEqual = refl
-punctuator_no_number punctuators.GreaterOrEqual = refl
-punctuator_no_number punctuators.Equal = refl
-punctuator_no_number punctuators.NotEqual = refl
-punctuator_no_number punctuators.LogicalAnd = refl
-punctuator_no_number punctuators.LogicalOr = refl
-punctuator_no_number punctuators.MultiplyAssign = refl
-punctuator_no_number punctuators.DivideAssign = refl
-punctuator_no_number punctuators.RemainderAssign = refl
-punctuator_no_number punctuators.AddAssign = refl
-punctuator_no_number punctuators.SubtractAssign = refl
-punctuator_no_number punctuators.AndAssign = refl
-punctuator_no_number punctuators.XorAssign = refl
-punctuator_no_number punctuators.OrAssign = refl
-punctuator_no_number punctuators.HashHash = refl
-punctuator_no_number punctuators.DoubleColon = refl
-punctuator_no_number punctuators.OpenBracket = refl
-punctuator_no_number punctuators.CloseBracket = refl
-punctuator_no_number punctuators.OpenParenthesis = refl
-punctuator_no_number punctuators.CloseParenthesis = refl
-punctuator_no_number punctuators.OpenBrace = refl
-punctuator_no_number punctuators.CloseBrace = refl
-punctuator_no_number punctuators.Point = refl
-punctuator_no_number punctuators.Ampersand = refl
-punctuator_no_number punctuators.Star = refl
-punctuator_no_number punctuators.Plus = refl
-punctuator_no_number punctuators.Minus = refl
-punctuator_no_number punctuators.Tilde = refl
-punctuator_no_number punctuators.Exclamation = refl
-punctuator_no_number punctuators.Slash = refl
-punctuator_no_number punctuators.Percent = refl
-punctuator_no_number punctuators.Less = refl
-punctuator_no_number punctuators.Greater = refl
-punctuator_no_number punctuators.Caret = refl
-punctuator_no_number punctuators.Bar = refl
-punctuator_no_number punctuators.Question = refl
-punctuator_no_number punctuators.Colon = refl
-punctuator_no_number punctuators.Semicolon = refl
-punctuator_no_number punctuators.Assign = refl
-punctuator_no_number punctuators.Comma = refl
-punctuator_no_number punctuators.Hash = refl
+punctuator_no_number other = refl
 
 pub punctuator_no_comment : (punctuator : Punctuator) → begins_comment (punctuator_text punctuator) ≡ false
 punctuator_no_comment punctuators.Ellipsis = refl
-punctuator_no_comment punctuators.LeftShiftAssign = refl
-punctuator_no_comment punctuators.RightShiftAssign = refl
-punctuator_no_comment punctuators.Arrow = refl
-punctuator_no_comment punctuators.Increment = refl
-punctuator_no_comment punctuators.Decrement = refl
-punctuator_no_comment punctuators.LeftShift = refl
-punctuator_no_comment punctuators.RightShift = refl
-punctuator_no_comment punctuators.LessOrEqual = refl
-punctuator_no_comment punctuators.GreaterOrEqual = refl
-punctuator_no_comment punctuators.Equal = refl
-punctuator_no_comment punctuators.NotEqual = refl
-punctuator_no_comment punctuators.LogicalAnd = refl
-punctuator_no_comment punctuators.LogicalOr = refl
-punctuator_no_comment punctuators.MultiplyAssign = refl
-punctuator_no_comment punctuators.DivideAssign = refl
-punctuator_no_comment punctuators.RemainderAssign = refl
-punctuator_no_comment punctuators.AddAssign = refl
-punctuator_no_comment punctuators.SubtractAssign = refl
-punctuator_no_comment punctuators.AndAssign = refl
-punctuator_no_comment punctuators.XorAssign = refl
-punctuator_no_comment punctuators.OrAssign = refl
-punctuator_no_comment punctuators.HashHash = refl
-punctuator_no_comment punctuators.DoubleColon = refl
-punctuator_no_comment punctuators.OpenBracket = refl
-punctuator_no_comment punctuators.CloseBracket = refl
-punctuator_no_comment punctuators.OpenParenthesis = refl
-punctuator_no_comment punctuators.CloseParenthesis = refl
-punctuator_no_comment punctuators.OpenBrace = refl
-punctuator_no_comment punctuators.CloseBrace = refl
-punctuator_no_comment punctuators.Point = refl
-punctuator_no_comment punctuators.Ampersand = refl
-punctuator_no_comment punctuators.Star = refl
-punctuator_no_comment punctuators.Plus = refl
-punctuator_no_comment punctuators.Minus = refl
-punctuator_no_comment punctuators.Tilde = refl
-punctuator_no_comment punctuators.Exclamation = refl
-punctuator_no_comment punctuators.Slash = refl
-punctuator_no_comment punctuators.Percent = refl
-punctuator_no_comment punctuators.Less = refl
-punctuator_no_comment punctuators.Greater = refl
-punctuator_no_comment punctuators.Caret = refl
-punctuator_no_comment punctuators.Bar = refl
-punctuator_no_comment punctuators.Question = refl
-punctuator_no_comment punctuators.Colon = refl
-punctuator_no_comment punctuators.Semicolon = refl
-punctuator_no_comment punctuators.Assign = refl
-punctuator_no_comment punctuators.Comma = refl
-punctuator_no_comment punctuators.Hash = refl
+punctuator_no_comment other = refl
 
 pub hash_or_two : (punctuator : Punctuator) → eqb (get_or (punctuator_text punctuator) 0 0) 35 ≡ true → (punctuator ≡ punctuators.Hash) ⊎ (punctuator ≡ punctuators.HashHash)
 hash_or_two punctuators.Ellipsis e = absurd (false≢true e)
@@ -341,54 +153,7 @@ punctuator_at n =
 
 punctuator_at-text : (punctuator : Punctuator) → punctuator_at (number_of (punctuator_text punctuator)) ≡ punctuator
 punctuator_at-text punctuators.Ellipsis = refl
-punctuator_at-text punctuators.LeftShiftAssign = refl
-punctuator_at-text punctuators.RightShiftAssign = refl
-punctuator_at-text punctuators.Arrow = refl
-punctuator_at-text punctuators.Increment = refl
-punctuator_at-text punctuators.Decrement = refl
-punctuator_at-text punctuators.LeftShift = refl
-punctuator_at-text punctuators.RightShift = refl
-punctuator_at-text punctuators.LessOrEqual = refl
-punctuator_at-text punctuators.GreaterOrEqual = refl
-punctuator_at-text punctuators.Equal = refl
-punctuator_at-text punctuators.NotEqual = refl
-punctuator_at-text punctuators.LogicalAnd = refl
-punctuator_at-text punctuators.LogicalOr = refl
-punctuator_at-text punctuators.MultiplyAssign = refl
-punctuator_at-text punctuators.DivideAssign = refl
-punctuator_at-text punctuators.RemainderAssign = refl
-punctuator_at-text punctuators.AddAssign = refl
-punctuator_at-text punctuators.SubtractAssign = refl
-punctuator_at-text punctuators.AndAssign = refl
-punctuator_at-text punctuators.XorAssign = refl
-punctuator_at-text punctuators.OrAssign = refl
-punctuator_at-text punctuators.HashHash = refl
-punctuator_at-text punctuators.DoubleColon = refl
-punctuator_at-text punctuators.OpenBracket = refl
-punctuator_at-text punctuators.CloseBracket = refl
-punctuator_at-text punctuators.OpenParenthesis = refl
-punctuator_at-text punctuators.CloseParenthesis = refl
-punctuator_at-text punctuators.OpenBrace = refl
-punctuator_at-text punctuators.CloseBrace = refl
-punctuator_at-text punctuators.Point = refl
-punctuator_at-text punctuators.Ampersand = refl
-punctuator_at-text punctuators.Star = refl
-punctuator_at-text punctuators.Plus = refl
-punctuator_at-text punctuators.Minus = refl
-punctuator_at-text punctuators.Tilde = refl
-punctuator_at-text punctuators.Exclamation = refl
-punctuator_at-text punctuators.Slash = refl
-punctuator_at-text punctuators.Percent = refl
-punctuator_at-text punctuators.Less = refl
-punctuator_at-text punctuators.Greater = refl
-punctuator_at-text punctuators.Caret = refl
-punctuator_at-text punctuators.Bar = refl
-punctuator_at-text punctuators.Question = refl
-punctuator_at-text punctuators.Colon = refl
-punctuator_at-text punctuators.Semicolon = refl
-punctuator_at-text punctuators.Assign = refl
-punctuator_at-text punctuators.Comma = refl
-punctuator_at-text punctuators.Hash = refl
+punctuator_at-text other = refl
 
 pub punctuator_text_injective : (p q : Punctuator) → punctuator_text p ≡ punctuator_text q → p ≡ q
 punctuator_text_injective p q same = sym (punctuator_at-text p) ∙ ap (λ text. punctuator_at (number_of text)) same ∙ punctuator_at-text q

@@ -17,11 +17,13 @@ use Rattle.c_lexer.specs.declared.element.FoundKind.TheVariants as founds
 use Rattle.c_lexer.specs.declared.directive.DirectiveKind.{DirectiveKind}
 use Rattle.c_lexer.specs.declared.token.Token.{Token}
 use Rattle.c_lexer.specs.Directives.{directive_macro, directive_declaration}
-use Rattle.c_lexer.specs.Kinds.{kind_of, meaning_in}
-use Rattle.c_lexer.specs.Elements.{Kind, Blank, Comment, Lexed, Element, ElementBegins, NoElementBegins, AreElements, has_line_feed, bytes_of, first_of, meaning_of, replaced, kept_text, tokens_of, include_by, includes_of}
+use Rattle.c_lexer.specs.Scanning.Tokens.{is_word_kind}
+use Rattle.c_lexer.specs.Scanning.Directives.{directive_in}
+use Rattle.c_lexer.specs.Scanning.Elements.{kind_in}
+use Rattle.c_lexer.specs.Scanning.Names.{kind_of, meaning_in}
+use Rattle.c_lexer.specs.Scanning.Reading.{includes_at, Keeps, HasRead, Stands, Refuses, Concludes, Answers}
+use Rattle.c_lexer.specs.Elements.{ElementKind, Blank, Comment, SingleToken, Element, ElementBegins, NoElementBegins, AreElements, has_line_feed, bytes_of, first_of, meaning_of, replaced, kept_text, tokens_of, include_by, includes_of}
 use Rattle.c_lexer.specs.Files.{AreTokensOf, Opens, IsFaultOf, token_limit}
-use Rattle.c_lexer.specs.Reading.{includes_at, Keeps, HasRead, Stands, Refuses, Concludes, Answers}
-use Rattle.c_lexer.specs.Scanning.{is_word_kind, directive_in, kind_in}
 use Rattle.c_lexer.proofs.Lexemes.{class_of_kind, class_is, class_of_letter, is_word_first}
 use Rattle.c_lexer.proofs.FirstOfLine.{begins_first, none_begins_first}
 use Rattle.c_lexer.proofs.Files.{same_tokens, same_fault, tokens_or_fault}
@@ -35,7 +37,7 @@ pub record Further (bytes : List ℕ) (reader new : Reader) : Type 0 where
   pub stands : Stands bytes new
   pub moved : reader.place.byte < new.place.byte
 
-pub further : (bytes rest : List ℕ) (reader new : Reader) (kind : Kind) (n : ℕ) (stands : Stands bytes reader) → rest ≡ drop reader.place.byte bytes → 0 < n → n ≤ length rest
+pub further : (bytes rest : List ℕ) (reader new : Reader) (kind : ElementKind) (n : ℕ) (stands : Stands bytes reader) → rest ≡ drop reader.place.byte bytes → 0 < n → n ≤ length rest
     → ElementBegins (reader.fresh ≡ true) rest kind (take n rest) (drop n rest) → HasRead (record { kind = kind; text = take n rest } ∷ stands.elements) new → Further bytes reader new
 further bytes rest reader new kind n stands rest_is some inside begins read =
     let at = reader.place.byte in
@@ -134,7 +136,7 @@ comment_read elements reader new text read place fresh names tokens includes =
     let blank = blank_read elements reader new text read place fresh names tokens includes in
     record { place = blank.place; fresh = blank.fresh; macros = blank.macros; declarations = blank.declarations; tokens = blank.tokens; includes = blank.includes }
 
-pub token_read : (elements : List Element) (reader new : Reader) (rest text : List ℕ) (found : FoundKind) (kind : TokenKind) → found ≡ founds.Lexed kind → HasRead elements reader → new.place ≡ place_after (bytes_of elements ++ text) → new.fresh ≡ false → new.names ≡ reader.names
+pub token_read : (elements : List Element) (reader new : Reader) (rest text : List ℕ) (found : FoundKind) (kind : TokenKind) → found ≡ founds.SingleToken kind → HasRead elements reader → new.place ≡ place_after (bytes_of elements ++ text) → new.fresh ≡ false → new.names ≡ reader.names
     → ((tokens : List Token) → Keeps reader.tokens.items tokens → Keeps new.tokens.items (tokens ++ record {
       kind = replaced (meaning_in reader.names text) kind;
       place = reader.place;
@@ -157,7 +159,7 @@ token_read elements reader new rest text found kind found_is read place fresh na
       includes = λ next. includes next ∙ read.includes reader.place ∙ ap (includes_of elements) read.place ∙ sym (append-nil (includes_of elements (place_after (bytes_of elements))));
     })
 
-pub line_read : (elements : List Element) (reader new : Reader) (rest behind : List ℕ) (found : FoundKind) (d : DirectiveKind) (n : ℕ) → found ≡ founds.Line d → behind ≡ drop 1 rest → HasRead elements reader
+pub line_read : (elements : List Element) (reader new : Reader) (rest behind : List ℕ) (found : FoundKind) (d : DirectiveKind) (n : ℕ) → found ≡ founds.DirectiveLine d → behind ≡ drop 1 rest → HasRead elements reader
     → new.place ≡ place_after (bytes_of elements ++ take n rest) → new.fresh ≡ false
     → ((name : List ℕ) → kind_of new.names.macros name ≡ first_of (directive_macro (directive_in behind d) name) (kind_of reader.names.macros name))
     → ((name : List ℕ) → kind_of new.names.declarations name ≡ first_of (directive_declaration (directive_in behind d) name) (kind_of reader.names.declarations name))

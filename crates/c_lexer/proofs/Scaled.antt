@@ -11,7 +11,7 @@ use Rattle.c_lexer.specs.declared.token.IntegerBase.TheVariants as bases
 use Rattle.c_lexer.specs.Bytes.{is_digit}
 use Rattle.c_lexer.specs.Integers.{is_digit_of}
 use Rattle.c_lexer.specs.Floating.{is_exponent_mark, is_sign, is_floating_suffix, IsExponent, IsScaled}
-use Rattle.c_lexer.specs.Scanning.{IsLongest, IsSignificand, IsMarked, is_marked, is_suffixed}
+use Rattle.c_lexer.specs.Scanning.Numbers.{IsLongest, IsSignificand, IsMarked, is_marked, is_suffixed}
 use Rattle.c_lexer.proofs.Lists.{prefix_len_at, length-le-prefix_len, list_all-take_prefix}
 use Rattle.c_lexer.proofs.Lexemes.{or_parts}
 use Rattle.c_lexer.proofs.Floats.{exponent_front, exponent_start, sign_no_digit}

@@ -10,8 +10,8 @@ use Rattle.c_lexer.specs.Bytes.{is_digit, is_word_byte}
 use Rattle.c_lexer.specs.Integers.{IsInteger}
 use Rattle.c_lexer.specs.Floating.{IsFloating}
 use Rattle.c_lexer.specs.Spelling.{IsNumberLike, IsLexeme}
-use Rattle.c_lexer.specs.Tokens.{Begins}
-use Rattle.c_lexer.specs.Scanning.{NoTokenBegins, begins_number, OpensAs}
+use Rattle.c_lexer.specs.LongestMatch.{Begins}
+use Rattle.c_lexer.specs.Scanning.Tokens.{NoTokenBegins, begins_number, OpensAs}
 use Rattle.c_lexer.proofs.Lists.{same_fronts, first_of_front, length-le-prefix_len}
 use Rattle.c_lexer.proofs.Lexemes.{digit_is_word_byte, is_number_word_bytes, number_word_from, integer_bytes, looks_integer, class_is, class_of_number, digit_begins, floating_begins}
 use Rattle.c_lexer.proofs.Scans.{scanned, Like, Float, Short, number_view, number_by_class, point_digit, some_number, prefix_some, word_front}

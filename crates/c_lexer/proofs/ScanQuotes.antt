@@ -9,9 +9,11 @@ use Rattle.c_lexer.specs.declared.token.CharacterConstant.{CharacterConstant}
 use Rattle.c_lexer.specs.declared.token.TokenKind.TheVariants as kinds
 use Rattle.c_lexer.specs.declared.scanner.Unread.TheVariants as unreads
 use Rattle.c_lexer.specs.Bytes.{is_letter, is_digit, is_string_byte, is_character_byte}
-use Rattle.c_lexer.specs.Spelling.{IsString, IsCharacter, IsLexeme}
-use Rattle.c_lexer.specs.Tokens.{Begins}
-use Rattle.c_lexer.specs.Scanning.{NoTokenBegins, OpensAs}
+use Rattle.c_lexer.specs.Characters.{IsCharacter}
+use Rattle.c_lexer.specs.Strings.{IsString}
+use Rattle.c_lexer.specs.Spelling.{IsLexeme}
+use Rattle.c_lexer.specs.LongestMatch.{Begins}
+use Rattle.c_lexer.specs.Scanning.Tokens.{NoTokenBegins, OpensAs}
 use Rattle.c_lexer.proofs.Lists.{first_of_front, prefix_len_at, list_all-take_prefix}
 use Rattle.c_lexer.proofs.Classes.{class_of_text}
 use Rattle.c_lexer.proofs.Lexemes.{class_is}

@@ -15,9 +15,12 @@ use Rattle.c_lexer.specs.Bytes.{is_letter, is_digit, is_word_byte, is_blank}
 use Rattle.c_lexer.specs.Punctuator.{punctuator_text}
 use Rattle.c_lexer.specs.Integers.{IsInteger}
 use Rattle.c_lexer.specs.Floating.{IsFloating}
-use Rattle.c_lexer.specs.Spelling.{is_word, IsNumberLike, IsString, IsCharacter, Spells, IsLexeme}
-use Rattle.c_lexer.specs.Tokens.{Begins}
-use Rattle.c_lexer.specs.Scanning.{IsLongest, begins_number, begins_comment}
+use Rattle.c_lexer.specs.Characters.{IsCharacter}
+use Rattle.c_lexer.specs.Strings.{IsString}
+use Rattle.c_lexer.specs.Spelling.{is_word, IsNumberLike, Spells, IsLexeme}
+use Rattle.c_lexer.specs.LongestMatch.{Begins}
+use Rattle.c_lexer.specs.Scanning.Tokens.{begins_number, begins_comment}
+use Rattle.c_lexer.specs.Scanning.Numbers.{IsLongest}
 use Rattle.c_lexer.proofs.Keywords.{is_word-keyword_text}
 use Rattle.c_lexer.proofs.Punctuators.{punctuator_looks}
 use Rattle.c_lexer.proofs.Lists.{first_of_front, length-le-prefix_len, list_all-take_prefix}

@@ -10,10 +10,11 @@ use Rattle.c_lexer.specs.declared.fault.LexFault.{LexFault}
 use Rattle.c_lexer.specs.declared.scanner.Unread.TheVariants as unreads
 use Rattle.c_lexer.specs.Directives.{HasName}
 use Rattle.c_lexer.specs.TokenLists.{TokenLists}
-use Rattle.c_lexer.specs.Elements.{Kind, Element, ElementBegins, NoElementBegins, AreElements, bytes_of, tokens_of, includes_of}
-use Rattle.c_lexer.specs.Reading.{is_fresh, is_fresh_after}
+use Rattle.c_lexer.specs.Elements.{ElementKind, Element, ElementBegins, NoElementBegins, AreElements, bytes_of, tokens_of, includes_of}
+use Rattle.c_lexer.specs.Scanning.Tokens.{OpensAs}
+use Rattle.c_lexer.specs.Scanning.Directives.{IsNameBehind}
+use Rattle.c_lexer.specs.Scanning.Reading.{is_fresh, is_fresh_after}
 use Rattle.c_lexer.specs.Files.{Opens, IsFaultOf, HasReading, token_limit}
-use Rattle.c_lexer.specs.Scanning.{OpensAs, IsNameBehind}
 use Rattle.c_lexer.proofs.FirstOfLine.{begins_first, none_begins_first}
 use Rattle.c_lexer.proofs.Files.{same_fault}
 
@@ -28,7 +29,7 @@ pub none_passed : (bytes : List ℕ) → HasPassed bytes 0 true
 none_passed bytes = record { elements = []; are = refl; inside = omega arith; fresh_is = refl }
 
 -- one element more
-pub passes : (bytes rest : List ℕ) (at n : ℕ) (fresh after : Bool) (kind : Kind) → HasPassed bytes at fresh → rest ≡ drop at bytes → n ≤ length rest
+pub passes : (bytes rest : List ℕ) (at n : ℕ) (fresh after : Bool) (kind : ElementKind) → HasPassed bytes at fresh → rest ≡ drop at bytes → n ≤ length rest
     → ElementBegins (fresh ≡ true) rest kind (take n rest) (drop n rest) → after ≡ is_fresh_after kind (take n rest) fresh → HasPassed bytes (at + n) after
 passes bytes rest at n fresh after kind passed rest_is inside begins after_is =
     let size : length rest ≡ length bytes - at = ap length rest_is ∙ length-drop at bytes in

@@ -6,8 +6,9 @@ use Rattle.c_lexer.specs.declared.token.CharacterConstant.{CharacterConstant}
 use Rattle.c_lexer.specs.declared.token.TokenKind.{TokenKind}
 use Rattle.c_lexer.specs.declared.token.TokenKind.TheVariants as kinds
 use Rattle.c_lexer.specs.Bytes.{is_character_byte}
-use Rattle.c_lexer.specs.Spelling.{escape_of, IsCharacter, Spells}
-use Rattle.c_lexer.specs.Tokens.{Begins}
+use Rattle.c_lexer.specs.Characters.{escape_of, IsCharacter}
+use Rattle.c_lexer.specs.Spelling.{Spells}
+use Rattle.c_lexer.specs.LongestMatch.{Begins}
 use Rattle.c_lexer.proofs.Keywords.{keyword_text_injective}
 use Rattle.c_lexer.proofs.Punctuators.{punctuator_text_injective}
 use Rattle.c_lexer.proofs.Lexemes.{class_of_kind, class_is, looks_integer, integer_no_floating}

@@ -7,7 +7,7 @@ use Rattle.c_lexer.specs.declared.token.TokenKind.{TokenKind}
 use Rattle.c_lexer.specs.declared.token.TokenKind.TheVariants as kinds
 use Rattle.c_lexer.specs.Headers.{header_text, header_macros, header_declarations, kind_among}
 use Rattle.c_lexer.specs.Spelling.{is_word}
-use Rattle.c_lexer.specs.Tokens.{Begins}
+use Rattle.c_lexer.specs.LongestMatch.{Begins}
 use Rattle.c_lexer.specs.Comments.{is_line_end, IsBehindGap}
 
 -- an include, or a name with the one constant that it stands for

@@ -11,19 +11,19 @@ use Rattle.c_lexer.specs.declared.token.TokenKind.TheVariants as kinds
 use Rattle.c_lexer.specs.declared.punctuator.Punctuator.TheVariants as punctuators
 use Rattle.c_lexer.specs.declared.tokens.Include.{Include}
 use Rattle.c_lexer.specs.Bytes.{is_blank}
-use Rattle.c_lexer.specs.Tokens.{Begins}
+use Rattle.c_lexer.specs.LongestMatch.{Begins}
 use Rattle.c_lexer.specs.Comments.{CommentBegins}
 use Rattle.c_lexer.specs.Directives as directives
 use Rattle.c_lexer.specs.Directives.{Directive, DirectiveBegins, directive_macro, directive_declaration}
 
-pub data Kind : Type 0 where
-  Blank : Kind
-  Comment : Kind
-  Line : Directive → Kind
-  Lexed : TokenKind → Kind
+pub data ElementKind : Type 0 where
+  Blank : ElementKind
+  Comment : ElementKind
+  DirectiveLine : Directive → ElementKind
+  SingleToken : TokenKind → ElementKind
 
 pub record Element : Type 0 where
-  pub kind : Kind
+  pub kind : ElementKind
   pub text : List ℕ
 
 -- the bytes that the elements were made of
@@ -35,11 +35,11 @@ abbrev pub has_line_feed : List ℕ → Bool
 has_line_feed text = list_any (λ b. b == 10) text
 
 -- whether it is a token or a directive
-abbrev pub is_token_or_directive : Kind → Bool
+abbrev pub is_token_or_directive : ElementKind → Bool
 is_token_or_directive Blank = false
 is_token_or_directive Comment = false
-is_token_or_directive (Line directive) = true
-is_token_or_directive (Lexed kind) = true
+is_token_or_directive (DirectiveLine directive) = true
+is_token_or_directive (SingleToken kind) = true
 
 -- what comes next is the first of its line: behind each earlier token and directive stands a line feed
 abbrev pub AreBeforeLine : List Element → Type 0
@@ -49,17 +49,17 @@ AreBeforeLine elements = (later : List Element) (element : Element) (earlier : L
 
 -- The element begins the bytes, where it may be known to be the first of its line. A `#` that is the first token of its
 -- line is none by itself.
-abbrev pub ElementBegins : Type 0 → List ℕ → Kind → List ℕ → List ℕ → Type 0
+abbrev pub ElementBegins : Type 0 → List ℕ → ElementKind → List ℕ → List ℕ → Type 0
 ElementBegins First bytes Blank text rest = (b : ℕ) × IsTrue (is_blank b) × (text ≡ b ∷ []) × (bytes ≡ b ∷ rest)
 ElementBegins First bytes Comment text rest = CommentBegins bytes text rest
-ElementBegins First bytes (Line directive) text rest = First × (bytes ≡ text ++ rest)
+ElementBegins First bytes (DirectiveLine directive) text rest = First × (bytes ≡ text ++ rest)
     × DirectiveBegins bytes directive rest
-ElementBegins First bytes (Lexed kind) text rest = Begins bytes kind text rest
+ElementBegins First bytes (SingleToken kind) text rest = Begins bytes kind text rest
     × (First → kind ≢ kinds.Punctuator punctuators.Hash)
 
 -- no element begins the bytes
 abbrev pub NoElementBegins : Type 0 → List ℕ → Type 0
-NoElementBegins First bytes = (kind : Kind) (text rest : List ℕ) → ElementBegins First bytes kind text rest → ⊥
+NoElementBegins First bytes = (kind : ElementKind) (text rest : List ℕ) → ElementBegins First bytes kind text rest → ⊥
 
 -- the elements begin the bytes, and the rest stands behind them
 abbrev pub AreElements : List ℕ → List Element → List ℕ → Type 0
@@ -69,17 +69,17 @@ AreElements bytes (element ∷ earlier) rest =
     × ElementBegins (AreBeforeLine earlier) from element.kind element.text rest
 
 -- what an element makes of a name as a macro, and what it declares it as
-abbrev pub element_macro : Kind → List ℕ → Option TokenKind
-element_macro (Line directive) name = directive_macro directive name
+abbrev pub element_macro : ElementKind → List ℕ → Option TokenKind
+element_macro (DirectiveLine directive) name = directive_macro directive name
 element_macro Blank name = None
 element_macro Comment name = None
-element_macro (Lexed kind) name = None
+element_macro (SingleToken kind) name = None
 
-abbrev pub element_declaration : Kind → List ℕ → Option TokenKind
-element_declaration (Line directive) name = directive_declaration directive name
+abbrev pub element_declaration : ElementKind → List ℕ → Option TokenKind
+element_declaration (DirectiveLine directive) name = directive_declaration directive name
 element_declaration Blank name = None
 element_declaration Comment name = None
-element_declaration (Lexed kind) name = None
+element_declaration (SingleToken kind) name = None
 
 abbrev pub first_of : Option TokenKind → Option TokenKind → Option TokenKind
 first_of (Some kind) other = Some kind
@@ -134,11 +134,11 @@ abbrev pub token_at : TokenKind → List ℕ → List ℕ → Token
 token_at kind text before = record { kind = kind; place = place_after before; text = kept_text kind text }
 
 -- the token that an element is, if it is one, from what its text stands for and from the bytes before
-abbrev pub token_of : Kind → List ℕ → Option TokenKind → List ℕ → List Token
-token_of (Lexed kind) text meaning before = token_at (replaced meaning kind) text before ∷ []
+abbrev pub token_of : ElementKind → List ℕ → Option TokenKind → List ℕ → List Token
+token_of (SingleToken kind) text meaning before = token_at (replaced meaning kind) text before ∷ []
 token_of Blank text meaning before = []
 token_of Comment text meaning before = []
-token_of (Line directive) text meaning before = []
+token_of (DirectiveLine directive) text meaning before = []
 
 abbrev pub tokens_of : List Element → List Token
 tokens_of [] = []
@@ -146,22 +146,22 @@ tokens_of (element ∷ earlier) = tokens_of earlier
     ++ token_of element.kind element.text (meaning_of earlier element.text) (bytes_of earlier)
 
 -- the place of the first token from an element on, given that of the first one behind it and the bytes before it
-abbrev pub first_place : Kind → List ℕ → Place → Place
-first_place (Lexed kind) before next = place_after before
+abbrev pub first_place : ElementKind → List ℕ → Place → Place
+first_place (SingleToken kind) before next = place_after before
 first_place Blank before next = next
 first_place Comment before next = next
-first_place (Line directive) before next = next
+first_place (DirectiveLine directive) before next = next
 
 -- the header that a directive includes, if it does, with the place of the first token behind
 abbrev pub include_by : Directive → Place → List Include
 include_by (directives.Include header) next = record { header = header; from = next } ∷ []
 include_by (directives.Define name kind) next = []
 
-abbrev pub include_of : Kind → Place → List Include
-include_of (Line directive) next = include_by directive next
+abbrev pub include_of : ElementKind → Place → List Include
+include_of (DirectiveLine directive) next = include_by directive next
 include_of Blank next = []
 include_of Comment next = []
-include_of (Lexed kind) next = []
+include_of (SingleToken kind) next = []
 
 -- the includes among elements behind which the first token, or the end, has this place
 abbrev pub includes_of : List Element → Place → List Include

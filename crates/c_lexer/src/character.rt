@@ -1,6 +1,6 @@
 ghost use Rattle.std.specs.Prelude.{◌≡◌};
-ghost use Rattle.c_lexer.specs.Spelling.{escape_of};
-ghost use Rattle.c_lexer.specs.Scanning.{IsQuoted};
+ghost use Rattle.c_lexer.specs.Characters.{escape_of};
+ghost use Rattle.c_lexer.specs.Scanning.Characters.{IsQuoted};
 
 use crate::byte::is_character_byte;
 use crate::token::CharacterConstant;

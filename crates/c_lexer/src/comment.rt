@@ -2,7 +2,7 @@ ghost use Rattle.std.specs.Prelude.{◌≡◌, ℕ, ◌+◌, ◌<◌, ◌≤◌,
 ghost use Rattle.std.specs.List.{prefix_len};
 ghost use Rattle.c_lexer.specs.Bytes.{is_line_byte};
 ghost use Rattle.c_lexer.specs.Comments.{ClosesAt};
-ghost use Rattle.c_lexer.specs.Scanning.{IsCommentLength};
+ghost use Rattle.c_lexer.specs.Scanning.Comments.{IsCommentLength};
 
 use crate::byte::is_line_byte;
 

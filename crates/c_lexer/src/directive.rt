@@ -1,9 +1,11 @@
 ghost use Rattle.std.specs.Prelude.{◌≡◌, ◌≤◌, length};
 ghost use Rattle.c_lexer.specs.Comments.{is_line_end};
 ghost use Rattle.c_lexer.specs.Directives.{is_constant};
-ghost use Rattle.c_lexer.specs.Scanning.{IsLocated, IsLineEnd, IsDirectiveBody, IsIncludeBody, IsDefineBody};
-ghost use Rattle.c_lexer.specs.Scanning.{IsIdentifierBehind, IsConstantBehind, IsNameBehind, IsConstantLineBody};
-ghost use Rattle.c_lexer.specs.Scanning.{IsIncludeBehind, IsDefineBehind, is_word_kind, is_identifier, begins_blank};
+ghost use Rattle.c_lexer.specs.Scanning.Tokens.{is_word_kind, is_identifier};
+ghost use Rattle.c_lexer.specs.Scanning.Comments.{begins_blank};
+ghost use Rattle.c_lexer.specs.Scanning.Directives.{IsLocated, IsLineEnd, IsDirectiveBody, IsIncludeBody};
+ghost use Rattle.c_lexer.specs.Scanning.Directives.{IsDefineBody, IsIdentifierBehind, IsConstantBehind, IsNameBehind};
+ghost use Rattle.c_lexer.specs.Scanning.Directives.{IsConstantLineBody, IsIncludeBehind, IsDefineBehind};
 
 use crate::byte::is_blank;
 use crate::gap::whole_gap;

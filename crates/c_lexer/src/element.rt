@@ -1,6 +1,6 @@
 ghost use Rattle.std.specs.Prelude.{◌<◌, ◌≡◌, ◌==◌, ◌&&◌, ℕ, List, length, slice_index};
-ghost use Rattle.c_lexer.specs.Reading.{is_fresh_after};
-ghost use Rattle.c_lexer.specs.Scanning.{IsFound, IsHashFound, kind_in};
+ghost use Rattle.c_lexer.specs.Scanning.Elements.{IsFound, IsHashFound, kind_in};
+ghost use Rattle.c_lexer.specs.Scanning.Reading.{is_fresh_after};
 
 use crate::byte::{byte_at, is_blank};
 use crate::comment::comment_length;
@@ -14,8 +14,8 @@ use crate::token::TokenKind;
 pub(crate) enum FoundKind {
     Blank,
     Comment,
-    Line(DirectiveKind),
-    Lexed(TokenKind),
+    DirectiveLine(DirectiveKind),
+    SingleToken(TokenKind),
 }
 
 /// An element at the front of some bytes, and how many bytes it has.
@@ -48,7 +48,7 @@ pub(crate) fn element(bytes: &[u8], fresh: bool) -> Result<Found, Unread>
                 directive(bytes)
             } else {
                 Ok(Found {
-                    kind: FoundKind::Lexed(scanned.kind),
+                    kind: FoundKind::SingleToken(scanned.kind),
                     length: scanned.length,
                 })
             }
@@ -63,7 +63,7 @@ pub(crate) fn is_fresh_after(kind: FoundKind, text: &[u8], fresh: bool) -> bool
 {
     match kind {
         FoundKind::Blank | FoundKind::Comment => has_line_feed(text) || fresh,
-        FoundKind::Line(_) | FoundKind::Lexed(_) => false,
+        FoundKind::DirectiveLine(_) | FoundKind::SingleToken(_) => false,
     }
 }
 
@@ -82,7 +82,7 @@ fn directive(bytes: &[u8]) -> Result<Found, Unread>
 {
     match directive_body(&bytes[1..]) {
         Some(found) => Ok(Found {
-            kind: FoundKind::Line(found.kind),
+            kind: FoundKind::DirectiveLine(found.kind),
             length: found.length + 1,
         }),
         None => Err(Unread::Directive),

@@ -1,6 +1,6 @@
 ghost use Rattle.std.specs.Prelude.{◌≡◌, ◌+◌, ◌<◌, ◌≤◌, length, slice_index, cond};
 ghost use Rattle.c_lexer.specs.Floating.{is_exponent_mark, is_sign, is_floating_suffix, IsExponent, IsFloating};
-ghost use Rattle.c_lexer.specs.Scanning.{IsLongest, IsSignificand, IsLongestScaled, is_suffixed, is_marked};
+ghost use Rattle.c_lexer.specs.Scanning.Numbers.{IsLongest, IsSignificand, IsLongestScaled, is_suffixed, is_marked};
 
 use crate::integer::{begins_hexadecimal, digits_length};
 use crate::token::IntegerBase;

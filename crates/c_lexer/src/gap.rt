@@ -1,6 +1,6 @@
 ghost use Rattle.std.specs.Prelude.{◌≤◌, length, drop};
 ghost use Rattle.c_lexer.specs.Comments.{IsBehindGap};
-ghost use Rattle.c_lexer.specs.Scanning.{IsGapLength};
+ghost use Rattle.c_lexer.specs.Scanning.Comments.{IsGapLength};
 
 use crate::byte::is_blank;
 use crate::comment::comment_length;

@@ -1,6 +1,6 @@
 ghost use Rattle.std.specs.Prelude.{◌≡◌, ◌++◌, [], ◌∷◌, map, IfOk};
 ghost use Rattle.rc_text.specs.declared.place.Place.{Place};
-ghost use Rattle.c_lexer.specs.Reading.{includes_at};
+ghost use Rattle.c_lexer.specs.Scanning.Reading.{includes_at};
 
 use crate::header::Header;
 use crate::tokens::Include;

@@ -5,7 +5,7 @@ ghost use Rattle.std.specs.Char.{digit_value};
 ghost use Rattle.std.specs.Str.Parse.{digits_value};
 ghost use Rattle.c_lexer.specs.declared.token.IntegerConstant.{IntegerConstant};
 ghost use Rattle.c_lexer.specs.Integers.{radix, is_digit_of, is_u, is_l, suffix_of, HasPrefix, IsInteger};
-ghost use Rattle.c_lexer.specs.Scanning.{IsBase, begins_hexadecimal, begins_octal};
+ghost use Rattle.c_lexer.specs.Scanning.Numbers.{IsBase, begins_hexadecimal, begins_octal};
 
 use crate::byte::{byte_at, is_digit, is_hexadecimal_digit, is_octal_digit};
 use crate::token::{IntegerBase, IntegerConstant, IntegerSuffix};

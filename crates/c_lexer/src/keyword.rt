@@ -1,6 +1,6 @@
 ghost use Rattle.std.specs.Prelude.{◌≡◌, ◌≢◌, IfSome, IfNone};
 ghost use Rattle.c_lexer.specs.declared.keyword.Keyword.{Keyword};
-ghost use Rattle.c_lexer.specs.Beginnings.{keywords_from};
+ghost use Rattle.c_lexer.specs.Scanning.Keywords.{keywords_from};
 ghost use Rattle.c_lexer.specs.Keyword.{keyword_text};
 
 use crate::byte::byte_at;
@@ -116,7 +116,12 @@ impl Keyword {
         match first {
             b'a' => &[Keyword::Auto, Keyword::Asm],
             b'b' => &[Keyword::Break],
-            b'c' => &[Keyword::Case, Keyword::Char, Keyword::Const, Keyword::Continue],
+            b'c' => &[
+                Keyword::Case,
+                Keyword::Char,
+                Keyword::Const,
+                Keyword::Continue,
+            ],
             b'd' => &[Keyword::Default, Keyword::Do, Keyword::Double],
             b'e' => &[Keyword::Else, Keyword::Enum, Keyword::Extern],
             b'f' => &[Keyword::Float, Keyword::For],
@@ -124,12 +129,30 @@ impl Keyword {
             b'i' => &[Keyword::If, Keyword::Inline, Keyword::Int],
             b'l' => &[Keyword::Long],
             b'r' => &[Keyword::Register, Keyword::Restrict, Keyword::Return],
-            b's' => &[Keyword::Short, Keyword::Signed, Keyword::Sizeof, Keyword::Static, Keyword::Struct, Keyword::Switch],
+            b's' => &[
+                Keyword::Short,
+                Keyword::Signed,
+                Keyword::Sizeof,
+                Keyword::Static,
+                Keyword::Struct,
+                Keyword::Switch,
+            ],
             b't' => &[Keyword::Typedef],
             b'u' => &[Keyword::Union, Keyword::Unsigned],
             b'v' => &[Keyword::Void, Keyword::Volatile],
             b'w' => &[Keyword::While],
-            b'_' => &[Keyword::Alignas, Keyword::Alignof, Keyword::Atomic, Keyword::Bool, Keyword::Complex, Keyword::Generic, Keyword::Imaginary, Keyword::Noreturn, Keyword::StaticAssert, Keyword::ThreadLocal],
+            b'_' => &[
+                Keyword::Alignas,
+                Keyword::Alignof,
+                Keyword::Atomic,
+                Keyword::Bool,
+                Keyword::Complex,
+                Keyword::Generic,
+                Keyword::Imaginary,
+                Keyword::Noreturn,
+                Keyword::StaticAssert,
+                Keyword::ThreadLocal,
+            ],
             _ => &[],
         }
     }

@@ -3,7 +3,7 @@ ghost use Rattle.std.specs.Str.{bytes_eq};
 ghost use Rattle.c_lexer.specs.declared.token.TokenKind.{TokenKind};
 ghost use Rattle.c_lexer.specs.Elements.{first_of};
 ghost use Rattle.c_lexer.specs.Headers.{header_macros, header_declarations, kind_among, plain_decimal};
-ghost use Rattle.c_lexer.specs.Kinds.{kind_of};
+ghost use Rattle.c_lexer.specs.Scanning.Names.{kind_of};
 ghost use Rattle.c_lexer.specs.declared.header.Header.TheVariants as headers;
 
 use crate::atomic_operation::AtomicOperation;

@@ -2,10 +2,10 @@ ghost use Rattle.std.specs.Prelude.{◌≡◌, ℕ, ◌<◌, ◌≤◌, List, le
 ghost use Rattle.c_lexer.specs.declared.fault.LexFault.{LexFault};
 ghost use Rattle.c_lexer.specs.declared.fault.LexFaultKind.{LexFaultKind};
 ghost use Rattle.c_lexer.specs.TokenLists.{TokenLists};
-ghost use Rattle.c_lexer.specs.Elements.{Kind, ElementBegins, NoElementBegins};
+ghost use Rattle.c_lexer.specs.Elements.{ElementKind, ElementBegins, NoElementBegins};
 ghost use Rattle.c_lexer.specs.Files.{AreTokensOf, Opens, IsFaultOf, HasReading};
-ghost use Rattle.c_lexer.specs.Reading.{is_fresh_after};
-ghost use Rattle.c_lexer.specs.Scanning.{CanOpen};
+ghost use Rattle.c_lexer.specs.Scanning.Elements.{CanOpen};
+ghost use Rattle.c_lexer.specs.Scanning.Reading.{is_fresh_after};
 
 use crate::directive::name_behind;
 use crate::element::{element, is_fresh_after};
@@ -45,7 +45,7 @@ fn step(rest: &[u8], fresh: bool) -> Option<(usize, bool)>
     requires { 0 < length rest.now }
     ensures { MatchOption result
         (NoElementBegins (IsTrue fresh) rest.now × ((kind : LexFaultKind) × Opens kind rest.now))
-        (λ step. (0 < step.0) × (step.0 ≤ length rest.now) × ((kind : Kind)
+        (λ step. (0 < step.0) × (step.0 ≤ length rest.now) × ((kind : ElementKind)
         × ElementBegins (IsTrue fresh) rest.now kind (take step.0 rest.now) (drop step.0 rest.now)
         × (step.1 ≡ is_fresh_after kind (take step.0 rest.now) fresh))) }
 {

@@ -2,7 +2,7 @@ ghost use Rattle.std.specs.Prelude.{◌≡◌, ◌^◌, ◌≤◌, ◌<◌, leng
 ghost use Rattle.c_lexer.specs.declared.fault.LexFault.{LexFault};
 ghost use Rattle.c_lexer.specs.TokenLists.{TokenLists};
 ghost use Rattle.c_lexer.specs.Files.{AreTokensOf, IsFaultOf, token_limit};
-ghost use Rattle.c_lexer.specs.Reading.{Answers};
+ghost use Rattle.c_lexer.specs.Scanning.Reading.{Answers};
 
 use crate::fault::LexRefusal;
 use crate::reader::Reader;

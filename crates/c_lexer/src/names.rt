@@ -2,7 +2,7 @@ ghost use Rattle.std.specs.Prelude.{◌≡◌, ℕ, List, Some, None, IfOk, if�
 ghost use Rattle.std.specs.Str.{bytes_eq};
 ghost use Rattle.c_lexer.specs.Elements.{first_of, replaced};
 ghost use Rattle.c_lexer.specs.Headers.{header_macros, header_declarations, kind_among};
-ghost use Rattle.c_lexer.specs.Kinds.{kind_of, meaning_in};
+ghost use Rattle.c_lexer.specs.Scanning.Names.{kind_of, meaning_in};
 
 use crate::header::Header;
 use crate::kinds::Kinds;

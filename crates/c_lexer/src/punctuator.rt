@@ -1,7 +1,6 @@
 ghost use Rattle.std.specs.Prelude.{◌≡◌};
-ghost use Rattle.c_lexer.specs.Beginnings.{punctuators_from};
+ghost use Rattle.c_lexer.specs.Scanning.Punctuators.{IsAtFront, punctuators_from};
 ghost use Rattle.c_lexer.specs.Punctuator.{punctuator_text};
-ghost use Rattle.c_lexer.specs.Scanning.{IsAtFront};
 
 use crate::byte::byte_at;
 
@@ -123,13 +122,36 @@ impl Punctuator {
     {
         match first {
             b'.' => &[Punctuator::Ellipsis, Punctuator::Point],
-            b'<' => &[Punctuator::LeftShiftAssign, Punctuator::LeftShift, Punctuator::LessOrEqual, Punctuator::Less],
-            b'>' => &[Punctuator::RightShiftAssign, Punctuator::RightShift, Punctuator::GreaterOrEqual, Punctuator::Greater],
-            b'-' => &[Punctuator::Arrow, Punctuator::Decrement, Punctuator::SubtractAssign, Punctuator::Minus],
-            b'+' => &[Punctuator::Increment, Punctuator::AddAssign, Punctuator::Plus],
+            b'<' => &[
+                Punctuator::LeftShiftAssign,
+                Punctuator::LeftShift,
+                Punctuator::LessOrEqual,
+                Punctuator::Less,
+            ],
+            b'>' => &[
+                Punctuator::RightShiftAssign,
+                Punctuator::RightShift,
+                Punctuator::GreaterOrEqual,
+                Punctuator::Greater,
+            ],
+            b'-' => &[
+                Punctuator::Arrow,
+                Punctuator::Decrement,
+                Punctuator::SubtractAssign,
+                Punctuator::Minus,
+            ],
+            b'+' => &[
+                Punctuator::Increment,
+                Punctuator::AddAssign,
+                Punctuator::Plus,
+            ],
             b'=' => &[Punctuator::Equal, Punctuator::Assign],
             b'!' => &[Punctuator::NotEqual, Punctuator::Exclamation],
-            b'&' => &[Punctuator::LogicalAnd, Punctuator::AndAssign, Punctuator::Ampersand],
+            b'&' => &[
+                Punctuator::LogicalAnd,
+                Punctuator::AndAssign,
+                Punctuator::Ampersand,
+            ],
             b'|' => &[Punctuator::LogicalOr, Punctuator::OrAssign, Punctuator::Bar],
             b'*' => &[Punctuator::MultiplyAssign, Punctuator::Star],
             b'/' => &[Punctuator::DivideAssign, Punctuator::Slash],

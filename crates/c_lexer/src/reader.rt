@@ -5,9 +5,10 @@ ghost use Rattle.c_lexer.specs.declared.token.TokenKind.{TokenKind};
 ghost use Rattle.c_lexer.specs.Directives.{directive_macro, directive_declaration, HasName};
 ghost use Rattle.c_lexer.specs.Elements.{Element, first_of, replaced, kept_text, include_by};
 ghost use Rattle.c_lexer.specs.Files.{Opens, token_limit};
-ghost use Rattle.c_lexer.specs.Kinds.{kind_of, meaning_in};
-ghost use Rattle.c_lexer.specs.Scanning.{AreWithin, StandWithin, directive_in, kind_in, CanOpen};
-ghost use Rattle.c_lexer.specs.Reading.{includes_at, HasRead, Keeps, Stands, Refuses, Concludes};
+ghost use Rattle.c_lexer.specs.Scanning.Directives.{AreWithin, directive_in};
+ghost use Rattle.c_lexer.specs.Scanning.Elements.{StandWithin, kind_in, CanOpen};
+ghost use Rattle.c_lexer.specs.Scanning.Names.{kind_of, meaning_in};
+ghost use Rattle.c_lexer.specs.Scanning.Reading.{includes_at, HasRead, Keeps, Stands, Refuses, Concludes};
 ghost use Rattle.c_lexer.specs.declared.token.Token.{Token};
 
 use crate::directive::{DirectiveKind, name_behind};
@@ -103,13 +104,13 @@ impl Reader {
                 self.place = after;
                 Ok(())
             }
-            FoundKind::Line(directive) => {
+            FoundKind::DirectiveLine(directive) => {
                 self.add_directive(alloc, &rest[1..], directive)?;
                 self.fresh = false;
                 self.place = after;
                 Ok(())
             }
-            FoundKind::Lexed(kind) => {
+            FoundKind::SingleToken(kind) => {
                 self.add_token(alloc, text, kind)?;
                 self.fresh = false;
                 self.place = after;

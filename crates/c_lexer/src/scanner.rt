@@ -1,6 +1,6 @@
 ghost use Rattle.std.specs.Prelude.{◌≡◌, ◌<◌, length, IsTrue, IsFalse, slice_index, Ok};
 ghost use Rattle.c_lexer.specs.Bytes.{is_letter, is_blank};
-ghost use Rattle.c_lexer.specs.Scanning.{IsScanned, begins_number, begins_comment, BeginsOtherwise};
+ghost use Rattle.c_lexer.specs.Scanning.Tokens.{IsScanned, begins_number, begins_comment, BeginsOtherwise};
 
 use crate::byte::{byte_at, is_digit, is_letter};
 use crate::character::character_constant;

@@ -1,7 +1,7 @@
 use Rattle.std.proofs.Common.{◌+◌, ◌-◌, take, sym, ap, ◌∙◌, length, drop, subst, arith}
 use Rattle.std.specs.List.{slice_range}
 use Rattle.std.proofs.lemmas.List.{take_rest, drop-drop, length-drop}
-use Rattle.c_lexer.specs.Scanning.{IsConstantLine}
+use Rattle.c_lexer.specs.Scanning.Directives.{IsConstantLine}
 use Rattle.c_lexer.proofs.DirectiveLaws.{same_token_behind}
 use Rattle.c_lexer.specs.declared.token.TokenKind.TheVariants as kinds
 use Rattle.c_lexer.specs.Directives.{TokenBehindGap}

@@ -1,6 +1,6 @@
 use Rattle.std.proofs.Common.{◌+◌, ◌-◌, refl, sym, ap, length, take, drop, subst, arith}
 use Rattle.std.proofs.lemmas.List.{take_rest, length-drop}
-use Rattle.c_lexer.specs.Scanning.{IsDefinitionLine}
+use Rattle.c_lexer.specs.Scanning.Directives.{IsDefinitionLine}
 use Rattle.c_lexer.proofs.DirectiveScans.{definition_shift}
 use Rattle.c_lexer.proofs.directive.define_body.Goals as goal
 

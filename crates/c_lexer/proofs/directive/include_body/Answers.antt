@@ -1,6 +1,6 @@
 use Rattle.std.proofs.Common.{sym, subst}
 use Rattle.std.proofs.lemmas.List.{take_rest}
-use Rattle.c_lexer.specs.Scanning.{IsHeaderLine}
+use Rattle.c_lexer.specs.Scanning.Directives.{IsHeaderLine}
 use Rattle.c_lexer.proofs.directive.include_body.Goals as goal
 
 pub returns-in-None : goal.returns-in-None

@@ -1,6 +1,6 @@
 use Rattle.std.proofs.Common.{sym, ◌∙◌, ap, drop}
 use Rattle.std.proofs.lemmas.Bool.{false≢true}
-use Rattle.c_lexer.specs.Scanning.{is_word_kind}
+use Rattle.c_lexer.specs.Scanning.Tokens.{is_word_kind}
 use Rattle.c_lexer.proofs.DirectiveLaws.{same_token_behind}
 use Rattle.c_lexer.proofs.Readings.{word_has_kind}
 use Rattle.c_lexer.proofs.directive.name_behind.Goals as goal

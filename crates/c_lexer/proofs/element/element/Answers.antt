@@ -1,7 +1,7 @@
 use Rattle.std.proofs.Common.{◌≡◌, ◌&&◌, get_or, take, drop, sym, ◌∙◌, subst}
 use Rattle.std.specs.Bool.{◌==◌}
 use Rattle.std.proofs.lemmas.Bool.{and_parts, eqb-true}
-use Rattle.c_lexer.specs.Tokens.{Begins}
+use Rattle.c_lexer.specs.LongestMatch.{Begins}
 use Rattle.c_lexer.proofs.Elements.{none_unread, hash_result, lexed_found}
 use Rattle.c_lexer.proofs.Elements.{lexed_some}
 use Rattle.c_lexer.proofs.element.element.Goals as goal

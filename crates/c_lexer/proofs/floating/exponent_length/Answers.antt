@@ -4,7 +4,7 @@ use Rattle.std.proofs.lemmas.Bool.{false≢true}
 use Rattle.std.proofs.lemmas.List.{take_rest}
 use Rattle.c_lexer.specs.Bytes.{is_digit}
 use Rattle.c_lexer.specs.Floating.{IsExponent}
-use Rattle.c_lexer.specs.Scanning.{IsLongest}
+use Rattle.c_lexer.specs.Scanning.Numbers.{IsLongest}
 use Rattle.c_lexer.proofs.Floats.{exponent_start, exponent_found, no_exponent}
 use Rattle.c_lexer.proofs.floating.exponent_length.Goals as goal
 use Rattle.c_lexer.proofs.floating.exponent_length.Goals.{After-digits_length-digits}

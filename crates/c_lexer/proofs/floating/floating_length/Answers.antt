@@ -1,7 +1,7 @@
 use Rattle.std.proofs.Common.{drop, sym, ◌∙◌, subst, arith}
 use Rattle.std.proofs.lemmas.List.{take_rest}
 use Rattle.c_lexer.specs.declared.token.IntegerBase.TheVariants as bases
-use Rattle.c_lexer.specs.Scanning.{IsLongestScaled}
+use Rattle.c_lexer.specs.Scanning.Numbers.{IsLongestScaled}
 use Rattle.c_lexer.proofs.Hexadecimals.{hexadecimal_size, hexadecimal_made}
 use Rattle.c_lexer.proofs.floating.floating_length.Goals as goal
 use Rattle.c_lexer.proofs.floating.floating_length.Goals.{After-scaled_length-length}

@@ -2,7 +2,7 @@ use Rattle.std.proofs.Common.{◌≡◌, ◌+◌, drop, ap, sym, ◌∙◌, subs
 use Rattle.std.proofs.lemmas.Bool.{false≢true}
 use Rattle.std.proofs.lemmas.List.{take_rest, drop-drop}
 use Rattle.c_lexer.specs.Floating.{IsExponent}
-use Rattle.c_lexer.specs.Scanning.{IsLongest, is_suffixed}
+use Rattle.c_lexer.specs.Scanning.Numbers.{IsLongest, is_suffixed}
 use Rattle.c_lexer.proofs.Scaled.{fits, scaled_made, scaled_size}
 use Rattle.c_lexer.proofs.floating.scaled_length.Goals as goal
 use Rattle.c_lexer.proofs.floating.scaled_length.Goals.{After-exponent_length-exponent}

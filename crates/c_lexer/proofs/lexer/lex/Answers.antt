@@ -1,5 +1,5 @@
 use Rattle.std.proofs.Common.{subst}
-use Rattle.c_lexer.specs.Reading.{Answers}
+use Rattle.c_lexer.specs.Scanning.Reading.{Answers}
 use Rattle.c_lexer.proofs.Readings.{answers_found, answers_fault, answers_many, only_tokens, only_fault, only_many}
 use Rattle.c_lexer.proofs.lexer.lex.Goals as goal
 

@@ -1,5 +1,5 @@
 use Rattle.std.proofs.Common.{◌-◌, length}
-use Rattle.c_lexer.specs.Reading.{Stands}
+use Rattle.c_lexer.specs.Scanning.Reading.{Stands}
 use Rattle.c_lexer.proofs.lexer.read_all.Given as goal
 
 abbrev pub invariant-loop-reader : goal.invariant-loop-reader

@@ -1,6 +1,6 @@
 use Rattle.std.proofs.Common.{◌≡◌, ◌≤◌, get_or}
 use Rattle.c_lexer.specs.declared.keyword.Keyword.{Keyword}
-use Rattle.c_lexer.specs.Beginnings.{keywords_from}
+use Rattle.c_lexer.specs.Scanning.Keywords.{keywords_from}
 use Rattle.c_lexer.specs.Keyword.{keyword_text}
 use Rattle.c_lexer.proofs.Keywords.{place_of}
 use Rattle.c_lexer.proofs.keyword.Keyword.from_spelling.Given as goal

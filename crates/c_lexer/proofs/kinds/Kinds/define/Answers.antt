@@ -1,6 +1,6 @@
 use Rattle.std.proofs.Common.{ap, ◌∙◌, cond, Some}
 use Rattle.std.specs.Str.{bytes_eq}
-use Rattle.c_lexer.specs.Kinds.{kind_of}
+use Rattle.c_lexer.specs.Scanning.Names.{kind_of}
 use Rattle.c_lexer.proofs.KindTables.{updated}
 use Rattle.c_lexer.proofs.kinds.Kinds.define.Goals as goal
 

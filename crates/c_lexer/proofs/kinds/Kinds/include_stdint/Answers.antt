@@ -3,7 +3,7 @@ use Rattle.std.proofs.Common.{◌∙◌}
 use Rattle.std.specs.Str.{bytes_eq}
 use Rattle.c_lexer.specs.declared.header_type.HeaderType.TheVariants as types
 use Rattle.c_lexer.specs.declared.token.TokenKind.TheVariants as kinds
-use Rattle.c_lexer.specs.Kinds.{kind_of}
+use Rattle.c_lexer.specs.Scanning.Names.{kind_of}
 use Rattle.c_lexer.proofs.Readings.{first_of_cond, first_of_more, map_ok}
 use Rattle.c_lexer.proofs.kinds.Kinds.include_stdint.Goals as goal
 

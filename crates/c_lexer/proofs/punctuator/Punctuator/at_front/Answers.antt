@@ -2,7 +2,7 @@ use Rattle.std.proofs.Common.{◌++◌, length, drop, refl, sym, ap, ◌∙◌, 
 use Rattle.std.proofs.lemmas.Bool.{false≢true}
 use Rattle.std.proofs.lemmas.Bool.Decides.{Decides-eqb}
 use Rattle.std.proofs.lemmas.Slice.Eq.{starts_is}
-use Rattle.c_lexer.specs.Beginnings.{punctuators_from}
+use Rattle.c_lexer.specs.Scanning.Punctuators.{punctuators_from}
 use Rattle.c_lexer.proofs.PunctuatorScans.{no_longer, passed_on, none_left}
 use Rattle.c_lexer.proofs.punctuator.Punctuator.at_front.Goals as goal
 

@@ -1,6 +1,6 @@
 use Rattle.std.proofs.Common.{◌≡◌, ◌≤◌, ◌++◌, List, ℕ, get_or}
 use Rattle.c_lexer.specs.declared.punctuator.Punctuator.{Punctuator}
-use Rattle.c_lexer.specs.Beginnings.{punctuators_from}
+use Rattle.c_lexer.specs.Scanning.Punctuators.{punctuators_from}
 use Rattle.c_lexer.specs.Punctuator.{punctuator_text}
 use Rattle.c_lexer.proofs.Punctuators.{place_of}
 use Rattle.c_lexer.proofs.punctuator.Punctuator.at_front.Given as goal

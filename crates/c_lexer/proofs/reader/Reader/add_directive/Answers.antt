@@ -3,8 +3,8 @@ use Rattle.std.specs.Str.{bytes_eq}
 use Rattle.std.specs.List.{slice_range}
 use Rattle.c_lexer.specs.Directives.{directive_macro}
 use Rattle.c_lexer.specs.Elements.{first_of}
-use Rattle.c_lexer.specs.Kinds.{kind_of}
-use Rattle.c_lexer.specs.Scanning.{directive_in}
+use Rattle.c_lexer.specs.Scanning.Directives.{directive_in}
+use Rattle.c_lexer.specs.Scanning.Names.{kind_of}
 use Rattle.c_lexer.proofs.Readings.{first_of_cond, map_ok}
 use Rattle.c_lexer.proofs.reader.Reader.add_directive.Goals as goal
 

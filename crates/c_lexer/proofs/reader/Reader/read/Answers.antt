@@ -1,6 +1,6 @@
 use Rattle.std.proofs.Common.{take, drop, length, ◌-◌}
 use Rattle.std.proofs.lemmas.List.{take_rest}
-use Rattle.c_lexer.specs.Scanning.{kind_in}
+use Rattle.c_lexer.specs.Scanning.Elements.{kind_in}
 use Rattle.c_lexer.proofs.Elements.{can_open}
 use Rattle.c_lexer.proofs.Readings.{further, fault_read}
 use Rattle.c_lexer.proofs.reader.Reader.read.Goals as goal

@@ -1,11 +1,12 @@
--- What the tables of the lexer make of a name.
+-- What the tables of names hold.
 use Rattle.std.specs.Prelude.{ℕ, List, Option}
 use Rattle.std.specs.BTreeMap.{get_by}
 use Rattle.std.specs.Cmp.Lexicographic.{slice_cmp}
 use Rattle.std.specs.Ordering.{nat_cmp}
+use Rattle.c_lexer.specs.declared.token.TokenKind.{TokenKind}
 use Rattle.c_lexer.specs.declared.kinds.Kinds.{Kinds}
 use Rattle.c_lexer.specs.declared.names.Names.{Names}
-use Rattle.c_lexer.specs.declared.token.TokenKind.{TokenKind}
+use Rattle.c_lexer.specs.declared.token.TokenKind.TheVariants as kinds
 use Rattle.c_lexer.specs.Elements.{first_of}
 
 abbrev pub kind_of : Kinds → List ℕ → Option TokenKind

@@ -1,25 +1,26 @@
 -- What a reader has read of a file.
-use Rattle.std.specs.Prelude.{◌≡◌, ℕ, ◌<◌, ◌≤◌, Bool, true, false, ◌||◌, List, [], ◌∷◌, ◌++◌, map, length, take, drop, Result, Ok, Err, ◌⊎◌}
+use Rattle.std.specs.Prelude.{◌≡◌, ℕ, ◌<◌, ◌≤◌, ◌||◌, Bool, true, false, List, [], ◌∷◌, ◌++◌, length, take, drop}
+use Rattle.std.specs.Prelude.{Result, Ok, Err, ◌⊎◌, map}
 use Rattle.rc_text.specs.declared.place.Place.{Place}
 use Rattle.rc_text.specs.Places.{place_after}
 use Rattle.c_lexer.specs.declared.fault.LexRefusal.{LexRefusal}
-use Rattle.c_lexer.specs.declared.fault.LexRefusal.TheVariants as refusals
 use Rattle.c_lexer.specs.declared.includes.Includes.{Includes}
 use Rattle.c_lexer.specs.declared.reader.Reader.{Reader}
-use Rattle.c_lexer.specs.declared.token.Token.{Token}
 use Rattle.c_lexer.specs.declared.tokens.Include.{Include}
-use Rattle.c_lexer.specs.TokenLists.{TokenLists}
-use Rattle.c_lexer.specs.Elements.{Kind, Blank, Comment, Line, Lexed, Element, has_line_feed, bytes_of, AreElements}
+use Rattle.c_lexer.specs.declared.token.Token.{Token}
+use Rattle.c_lexer.specs.declared.fault.LexRefusal.TheVariants as refusals
+use Rattle.c_lexer.specs.Elements.{ElementKind, Blank, Comment, DirectiveLine, SingleToken, Element, has_line_feed, bytes_of, AreElements}
 use Rattle.c_lexer.specs.Elements.{macro_of, declaration_of, tokens_of, includes_of}
+use Rattle.c_lexer.specs.TokenLists.{TokenLists}
 use Rattle.c_lexer.specs.Files.{AreTokensOf, IsFaultOf, token_limit}
-use Rattle.c_lexer.specs.Kinds.{kind_of}
+use Rattle.c_lexer.specs.Scanning.Names.{kind_of}
 
 -- no token and no directive stands on the line behind an element, given the same before it
-abbrev pub is_fresh_after : Kind → List ℕ → Bool → Bool
+abbrev pub is_fresh_after : ElementKind → List ℕ → Bool → Bool
 is_fresh_after Blank text fresh = has_line_feed text || fresh
 is_fresh_after Comment text fresh = has_line_feed text || fresh
-is_fresh_after (Line directive) text fresh = false
-is_fresh_after (Lexed kind) text fresh = false
+is_fresh_after (DirectiveLine directive) text fresh = false
+is_fresh_after (SingleToken kind) text fresh = false
 
 abbrev pub is_fresh : List Element → Bool
 is_fresh [] = true

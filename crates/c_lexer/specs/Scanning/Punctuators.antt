@@ -1,20 +1,27 @@
--- The punctuators and the keywords by the byte that they begin with.
-use Rattle.std.specs.Prelude.{ℕ, ◌==◌, List, [], ◌∷◌, if◌then◌else◌}
-use Rattle.c_lexer.specs.declared.keyword.Keyword.{Keyword}
-use Rattle.c_lexer.specs.declared.keyword.Keyword.TheVariants as keywords
+-- What is found of a punctuator at the front of some bytes.
+use Rattle.std.specs.Prelude.{◌≡◌, ℕ, ◌≤◌, ◌==◌, List, [], ◌∷◌, ◌++◌, length, Option, Some, None, if◌then◌else◌}
 use Rattle.c_lexer.specs.declared.punctuator.Punctuator.{Punctuator}
 use Rattle.c_lexer.specs.declared.punctuator.Punctuator.TheVariants as punctuators
+use Rattle.c_lexer.specs.Punctuator.{punctuator_text}
+
+-- the longest punctuator that begins the bytes, or none where none does
+abbrev pub IsAtFront : List ℕ → Option Punctuator → Type 0
+IsAtFront bytes (Some punctuator) =
+    ((rest : List ℕ) × (bytes ≡ punctuator_text punctuator ++ rest))
+    × ((other : Punctuator) (rest : List ℕ) → bytes ≡ punctuator_text other ++ rest
+    → length (punctuator_text other) ≤ length (punctuator_text punctuator))
+IsAtFront bytes None = (punctuator : Punctuator) (rest : List ℕ) → bytes ≡ punctuator_text punctuator ++ rest → ⊥
 
 -- the punctuators that begin with a byte, the longer ones first
 abbrev pub punctuators_from : ℕ → List Punctuator
 punctuators_from b =
     if b == 46 then punctuators.Ellipsis ∷ punctuators.Point ∷ []
     else if b == 60 then punctuators.LeftShiftAssign ∷ punctuators.LeftShift ∷ punctuators.LessOrEqual
-        ∷ punctuators.Less ∷ []
+    ∷ punctuators.Less ∷ []
     else if b == 62 then punctuators.RightShiftAssign ∷ punctuators.RightShift ∷ punctuators.GreaterOrEqual
-        ∷ punctuators.Greater ∷ []
+    ∷ punctuators.Greater ∷ []
     else if b == 45 then punctuators.Arrow ∷ punctuators.Decrement ∷ punctuators.SubtractAssign
-        ∷ punctuators.Minus ∷ []
+    ∷ punctuators.Minus ∷ []
     else if b == 43 then punctuators.Increment ∷ punctuators.AddAssign ∷ punctuators.Plus ∷ []
     else if b == 61 then punctuators.Equal ∷ punctuators.Assign ∷ []
     else if b == 33 then punctuators.NotEqual ∷ punctuators.Exclamation ∷ []
@@ -36,28 +43,4 @@ punctuators_from b =
     else if b == 63 then punctuators.Question ∷ []
     else if b == 59 then punctuators.Semicolon ∷ []
     else if b == 44 then punctuators.Comma ∷ []
-    else []
-
--- the keywords that begin with a byte
-abbrev pub keywords_from : ℕ → List Keyword
-keywords_from b =
-    if b == 97 then keywords.Auto ∷ keywords.Asm ∷ []
-    else if b == 98 then keywords.Break ∷ []
-    else if b == 99 then keywords.Case ∷ keywords.Char ∷ keywords.Const ∷ keywords.Continue ∷ []
-    else if b == 100 then keywords.Default ∷ keywords.Do ∷ keywords.Double ∷ []
-    else if b == 101 then keywords.Else ∷ keywords.Enum ∷ keywords.Extern ∷ []
-    else if b == 102 then keywords.Float ∷ keywords.For ∷ []
-    else if b == 103 then keywords.Goto ∷ []
-    else if b == 105 then keywords.If ∷ keywords.Inline ∷ keywords.Int ∷ []
-    else if b == 108 then keywords.Long ∷ []
-    else if b == 114 then keywords.Register ∷ keywords.Restrict ∷ keywords.Return ∷ []
-    else if b == 115 then keywords.Short ∷ keywords.Signed ∷ keywords.Sizeof ∷ keywords.Static ∷ keywords.Struct
-        ∷ keywords.Switch ∷ []
-    else if b == 116 then keywords.Typedef ∷ []
-    else if b == 117 then keywords.Union ∷ keywords.Unsigned ∷ []
-    else if b == 118 then keywords.Void ∷ keywords.Volatile ∷ []
-    else if b == 119 then keywords.While ∷ []
-    else if b == 95 then keywords.Alignas ∷ keywords.Alignof ∷ keywords.Atomic ∷ keywords.Bool ∷ keywords.Complex
-        ∷ keywords.Generic ∷ keywords.Imaginary ∷ keywords.Noreturn ∷ keywords.StaticAssert
-        ∷ keywords.ThreadLocal ∷ []
     else []
