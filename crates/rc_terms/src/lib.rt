@@ -1,8 +1,26 @@
-//! Values of the logic, which byte values and assertions have in common.
+//! The language in which annotations speak of numbers, truth values, locations and lists: terms, what they mean, and
+//! terms with a name replaced. The layers above write terms, and use `eval` and `subst`. Certificates stand here too,
+//! as plain data that several crates share.
 #![tactic(auto)]
 
+mod bindings;
 mod cert;
+mod lists;
 mod location;
+mod name;
+mod numbers;
+mod operator;
+mod refusal;
+mod sort;
+mod term;
+mod value;
 
+pub use bindings::{Bindings, Env};
 pub use cert::{Cert, CertEntry};
 pub use location::Loc;
+pub use name::Name;
+pub use operator::{BinaryOperator, UnaryOperator};
+pub use refusal::TermRefusal;
+pub use sort::{Binder, Sort, Sorts};
+pub use term::{Prop, Term};
+pub use value::TermValue;
