@@ -2,9 +2,8 @@ ghost use Rattle.std.specs.Prelude.{◌≡◌, [], ◌∷◌, ◌++◌, option_c
 ghost use Rattle.rc_terms.specs.Bindings.{binding_of};
 
 use crate::name::Name;
-use crate::refusal::TermRefusal;
 use crate::value::TermValue;
-use std::alloc::Global;
+use std::alloc::{AllocError, Global};
 use std::marker::Model;
 
 /// Names with what each stands for. Of two entries of one name the later one counts.
@@ -53,7 +52,7 @@ impl<T> Bindings<T> {
 
 impl<T: Drop> Bindings<T> {
     /// Lets the name stand for this from now on.
-    pub fn bind(&mut self, name: Name, meaning: T) -> Result<(), TermRefusal>
+    pub fn bind(&mut self, name: Name, meaning: T) -> Result<(), AllocError>
         ensures ok { OnOk result (self.new ≡ self.old ++ (name, meaning) ∷ []) }
         ensures err { OnErr result (self.new ≡ self.old) }
     {

@@ -9,6 +9,7 @@ mod lists;
 mod location;
 mod name;
 mod numbers;
+mod operations;
 mod operator;
 mod refusal;
 mod sort;

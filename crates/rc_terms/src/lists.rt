@@ -3,11 +3,10 @@ ghost use Rattle.std.specs.Prelude.{◌≡◌, ◌∷◌, ◌++◌, IfOk, revers
 ghost use Rattle.rc_terms.specs.Operators.{element as element_of, updated as updated_list};
 ghost use Rattle.rc_terms.specs.Operators.{first_numbers as front_of, numbers_past as rest_of};
 
-use crate::refusal::TermRefusal;
 use sqlite_items::Items;
-use std::alloc::Global;
+use std::alloc::{AllocError, Global};
 
-pub fn reversed(alloc: Global, numbers: &[i128]) -> Result<Items<i128>, TermRefusal>
+pub fn reversed(alloc: Global, numbers: &[i128]) -> Result<Items<i128>, AllocError>
     ensures { IfOk result (λ list. list ≡ reverse numbers.now) }
 {
     let numbers: Vec<i128> = numbers.iter().rev().copied().collect(alloc)?;
@@ -18,7 +17,7 @@ pub fn with_front(
     alloc: Global,
     number: i128,
     numbers: &[i128],
-) -> Result<Items<i128>, TermRefusal>
+) -> Result<Items<i128>, AllocError>
     ensures { IfOk result (λ list. list ≡ number ∷ numbers.now) }
 {
     let mut list = Vec::new(alloc);
@@ -31,7 +30,7 @@ pub fn joined(
     alloc: Global,
     front: &[i128],
     back: &[i128],
-) -> Result<Items<i128>, TermRefusal>
+) -> Result<Items<i128>, AllocError>
     ensures { IfOk result (λ list. list ≡ front.now ++ back.now) }
 {
     let mut list = Vec::from_slice(alloc, front)?;
@@ -56,7 +55,7 @@ pub fn updated(
     numbers: &[i128],
     index: i128,
     number: i128,
-) -> Result<Items<i128>, TermRefusal>
+) -> Result<Items<i128>, AllocError>
     ensures { IfOk result (λ list. list ≡ updated_list numbers.now index number) }
 {
     let mut list = Items::from_slice(alloc, numbers)?;

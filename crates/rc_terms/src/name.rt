@@ -1,8 +1,7 @@
 ghost use Rattle.std.specs.Prelude.{◌≡◌, IfOk};
 ghost use Rattle.rc_terms.specs.Names.{same_name};
 
-use crate::refusal::TermRefusal;
-use std::alloc::Global;
+use std::alloc::{AllocError, Global};
 use std::marker::Model;
 
 /// A name of a term, which contracts see as the list of its bytes.
@@ -21,7 +20,7 @@ impl Model for Name {
 }
 
 impl Name {
-    pub fn from_str(alloc: Global, text: &str) -> Result<Name, TermRefusal>
+    pub fn from_str(alloc: Global, text: &str) -> Result<Name, AllocError>
         ensures { IfOk result (λ name. name ≡ text.now) }
     {
         Ok(Name {
@@ -30,7 +29,7 @@ impl Name {
     }
 
     /// The same name.
-    pub fn copy(&self, alloc: Global) -> Result<Name, TermRefusal>
+    pub fn copy(&self, alloc: Global) -> Result<Name, AllocError>
         ensures { IfOk result (λ copy. copy ≡ self.now) }
     {
         Name::from_str(alloc, self.as_str())

@@ -2,10 +2,9 @@ ghost use Rattle.std.specs.Prelude.{◌≡◌, IfOk};
 
 use crate::name::Name;
 use crate::operator::{BinaryOperator, UnaryOperator};
-use crate::refusal::TermRefusal;
 use shared_values::Shared;
 use sqlite_items::Items;
-use std::alloc::Global;
+use std::alloc::{AllocError, Global};
 
 /// A term of the language in which annotations speak of values (the grammar is this project's own). Its parts are shared,
 /// so that a part that is used again is not copied; contracts see the tree alone.
@@ -33,7 +32,7 @@ pub struct Prop {
 }
 
 /// The same parts, with one more owner each.
-fn share_all(alloc: Global, parts: &[Shared<Term>]) -> Result<Items<Shared<Term>>, TermRefusal>
+fn share_all(alloc: Global, parts: &[Shared<Term>]) -> Result<Items<Shared<Term>>, AllocError>
     ensures { IfOk result (λ shared. shared ≡ parts.now) }
 {
     let mut shared = Items::new(alloc);
@@ -45,7 +44,7 @@ fn share_all(alloc: Global, parts: &[Shared<Term>]) -> Result<Items<Shared<Term>
 
 impl Term {
     /// The same term, whose parts are shared and not copied.
-    pub fn copy(&self, alloc: Global) -> Result<Term, TermRefusal>
+    pub fn copy(&self, alloc: Global) -> Result<Term, AllocError>
         ensures { IfOk result (λ copy. copy ≡ self.now) }
     {
         Ok(match self {

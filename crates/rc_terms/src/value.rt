@@ -1,9 +1,8 @@
 ghost use Rattle.std.specs.Prelude.{◌≡◌, IfOk};
 
 use crate::location::Loc;
-use crate::refusal::TermRefusal;
 use sqlite_items::Items;
-use std::alloc::Global;
+use std::alloc::{AllocError, Global};
 
 /// What a term means under an environment.
 #[derive(Debug, Drop)]
@@ -58,7 +57,7 @@ impl TermValue {
     }
 
     /// The same value.
-    pub fn copy(&self, alloc: Global) -> Result<TermValue, TermRefusal>
+    pub fn copy(&self, alloc: Global) -> Result<TermValue, AllocError>
         ensures { IfOk result (λ copy. copy ≡ self.now) }
     {
         Ok(match self {
