@@ -1,2 +1,4 @@
 pub mod Bits
+pub mod Evaluations
 pub mod Shifts
+pub mod Widths

@@ -1,11 +1,13 @@
 -- What a term means under an environment (this project's own, after the pure terms of RefinedC, PLDI 2021), on whole
 -- numbers without a bound; and when a number on the way leaves 128 bits.
-use Rattle.std.specs.Prelude.{ℕ, Bool, true, false, not, ◌||◌, List, map, cond, pos, unwrap_or}
+use Rattle.std.specs.Prelude.{◌≡◌, ℕ, Result, Ok, Err, Bool, true, false, not, ◌||◌, List, map, cond, pos, unwrap_or}
 use Rattle.std.specs.List.{list_any}
 use Rattle.rc_terms.specs.declared.term.Term.{Term}
 use Rattle.rc_terms.specs.declared.term.Term.TheOpen.{Term-F}
 use Rattle.rc_terms.specs.declared.term.Term.TheFolds.{fold-Term, para-Term}
 use Rattle.rc_terms.specs.declared.location.Loc.TheVariants as locations
+use Rattle.rc_terms.specs.declared.refusal.TermRefusal.{TermRefusal}
+use Rattle.rc_terms.specs.declared.refusal.TermRefusal.TheVariants as refusals
 use Rattle.rc_terms.specs.declared.value.TermValue.{TermValue}
 use Rattle.rc_terms.specs.declared.value.TermValue.TheVariants as values
 use Rattle.rc_terms.specs.Bindings.{binding_of}
@@ -49,3 +51,10 @@ width_step env node = false
 -- isn't evaluated
 abbrev pub passes_width : Environment → Term → Bool
 passes_width env = para-Term Bool (width_step env)
+
+-- a call gives this value and no number left the 128 bits, says that one did, or finds no memory
+abbrev pub Computes : Result TermValue TermRefusal → TermValue → Bool → Type 0
+Computes (Ok found) value wide = (found ≡ value) × (wide ≡ false)
+Computes (Err refusals.Width) value wide = wide ≡ true
+Computes (Err refusals.NoMemory) value wide = Unit {0}
+Computes (Err refusals.TermLimit) value wide = ⊥

@@ -5,6 +5,7 @@
 
 mod bindings;
 mod cert;
+mod evaluation;
 mod lists;
 mod location;
 mod name;
@@ -12,16 +13,19 @@ mod numbers;
 mod operations;
 mod operator;
 mod refusal;
+mod size;
 mod sort;
 mod term;
 mod value;
 
 pub use bindings::{Bindings, Env};
 pub use cert::{Cert, CertEntry};
+pub use evaluation::eval;
 pub use location::Loc;
 pub use name::Name;
 pub use operator::{BinaryOperator, UnaryOperator};
 pub use refusal::TermRefusal;
+pub use size::{NODE_LIMIT, is_within_limit};
 pub use sort::{Binder, Sort, Sorts};
 pub use term::{Prop, Term};
 pub use value::TermValue;
