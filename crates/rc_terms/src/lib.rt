@@ -15,6 +15,7 @@ mod operator;
 mod refusal;
 mod size;
 mod sort;
+mod substitution;
 mod term;
 mod value;
 
@@ -27,5 +28,6 @@ pub use operator::{BinaryOperator, UnaryOperator};
 pub use refusal::TermRefusal;
 pub use size::{NODE_LIMIT, is_within_limit};
 pub use sort::{Binder, Sort, Sorts};
+pub use substitution::subst;
 pub use term::{Prop, Term};
 pub use value::TermValue;
