@@ -55,7 +55,7 @@ fn replaced(
 {
     match term {
         Term::Variable(other) => {
-            if other.is(name) {
+            if name.is(other) {
                 Ok(Some(by.share()?))
             } else {
                 Ok(None)
