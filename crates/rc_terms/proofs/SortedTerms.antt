@@ -21,6 +21,8 @@ use Rattle.rc_terms.specs.Names.{same_name}
 use Rattle.rc_terms.specs.Bindings.{binding_of, first_of_two}
 use Rattle.rc_terms.specs.Operators.{plus, unary, binary, truth_of}
 use Rattle.rc_terms.specs.Evaluation.{Environment, value_of, value_step}
+use Rattle.rc_terms.specs.Substitution.{substituted, substitution_step}
+use Rattle.rc_terms.proofs.Substitutions.{binding_of-snoc}
 use Rattle.rc_terms.specs.Sorting.{same_sort, given, sum_sort, unary_sort, binary_sort, has, conditional_sort, sort_step, sort_under, sort_of_value, sorts_of}
 
 -- what is given is the sort that was named
@@ -190,3 +192,73 @@ module _ (env : Environment) where
   pub sort_of_value-value_of : (term : Term) → HasItsSort term
   sort_of_value-value_of =
       ind-Term HasItsSort (λ x y is. subst (λ z. HasItsSort (roll-Term z)) is (node_has y))
+
+module _ (names : List (List ℕ × Sort)) (name : List ℕ) (by : Term) (sort : Sort) (is : sort_under names by ≡ Some sort) where
+  abbrev named : List (List ℕ × Sort)
+  named = names ++ (name, sort) ∷ []
+
+  abbrev Keeps : Term → Type 0
+  Keeps term = sort_under names (substituted name by term) ≡ sort_under named term
+
+  abbrev Kept : Type 0
+  Kept = (term : Term) × Keeps term
+
+  before : (x : Term-F Term) → substituted name by (roll-Term x) ≡ substitution_step name by (map-Term Term Term (substituted name by) x)
+  before x = fold-roll-Term Term (substitution_step name by) x
+
+  after : (n : List (List ℕ × Sort)) (x : Term-F Term) → sort_under n (roll-Term x) ≡ sort_step n (map-Term Term (Option Sort) (sort_under n) x)
+  after n x = fold-roll-Term (Option Sort) (sort_step n) x
+
+  at_variable : (b : Bool) (other : List ℕ)
+      → sort_under names (cond b by (roll-Term (Term-F.Variable other))) ≡ cond b (Some sort) (binding_of other names)
+  at_variable true other = is
+  at_variable false other = after names (Term-F.Variable other)
+
+  sorts_kept : (parts : List Kept)
+      → map (sort_under names) (map (substituted name by) (map (λ part. part.0) parts)) ≡ map (sort_under named) (map (λ part. part.0) parts)
+  sorts_kept [] = refl
+  sorts_kept (part ∷ parts) =
+      ap (λ s. s ∷ map (sort_under names) (map (substituted name by) (map (λ part. part.0) parts))) part.1
+      ∙ ap (λ l. sort_under named part.0 ∷ l) (sorts_kept parts)
+
+  node_kept : (y : Term-F Kept) → Keeps (roll-Term (map-Term Kept Term (λ part. part.0) y))
+  node_kept (Term-F.Variable other) =
+      ap (sort_under names) (before (Term-F.Variable other)) ∙ at_variable (same_name name other) other
+      ∙ sym (binding_of-snoc names name other sort) ∙ sym (after named (Term-F.Variable other))
+  node_kept (Term-F.Integer number) =
+      ap (sort_under names) (before (Term-F.Integer number)) ∙ after names (Term-F.Integer number) ∙ sym (after named (Term-F.Integer number))
+  node_kept (Term-F.Truth truth) =
+      ap (sort_under names) (before (Term-F.Truth truth)) ∙ after names (Term-F.Truth truth) ∙ sym (after named (Term-F.Truth truth))
+  node_kept Term-F.Null = ap (sort_under names) (before Term-F.Null) ∙ after names Term-F.Null ∙ sym (after named Term-F.Null)
+  node_kept (Term-F.List parts) =
+      ap (sort_under names) (before (Term-F.List (map (λ part. part.0) parts)))
+      ∙ after names (Term-F.List (map (substituted name by) (map (λ part. part.0) parts)))
+      ∙ ap (λ l. given (list_all (has sorts.Int) l) sorts.List) (sorts_kept parts)
+      ∙ sym (after named (Term-F.List (map (λ part. part.0) parts)))
+  node_kept (Term-F.Unary operator a) =
+      ap (sort_under names) (before (Term-F.Unary operator a.0)) ∙ after names (Term-F.Unary operator (substituted name by a.0))
+      ∙ ap (option_and_then (unary_sort operator)) a.1 ∙ sym (after named (Term-F.Unary operator a.0))
+  node_kept (Term-F.Binary operator a b) =
+      ap (sort_under names) (before (Term-F.Binary operator a.0 b.0))
+      ∙ after names (Term-F.Binary operator (substituted name by a.0) (substituted name by b.0))
+      ∙ ap (λ s. option_and_then (λ first. option_and_then (binary_sort operator first) (sort_under names (substituted name by b.0))) s) a.1
+      ∙ ap (λ s. option_and_then (λ first. option_and_then (binary_sort operator first) s) (sort_under named a.0)) b.1
+      ∙ sym (after named (Term-F.Binary operator a.0 b.0))
+  node_kept (Term-F.Conditional a b c) =
+      ap (sort_under names) (before (Term-F.Conditional a.0 b.0 c.0))
+      ∙ after names (Term-F.Conditional (substituted name by a.0) (substituted name by b.0) (substituted name by c.0))
+      ∙ ap (λ s. conditional_sort s (sort_under names (substituted name by b.0)) (sort_under names (substituted name by c.0))) a.1
+      ∙ ap (λ s. conditional_sort (sort_under named a.0) s (sort_under names (substituted name by c.0))) b.1
+      ∙ ap (λ s. conditional_sort (sort_under named a.0) (sort_under named b.0) s) c.1
+      ∙ sym (after named (Term-F.Conditional a.0 b.0 c.0))
+  node_kept (Term-F.Update a b c) =
+      ap (sort_under names) (before (Term-F.Update a.0 b.0 c.0))
+      ∙ after names (Term-F.Update (substituted name by a.0) (substituted name by b.0) (substituted name by c.0))
+      ∙ ap (λ s. given (has sorts.List s && has sorts.Int (sort_under names (substituted name by b.0)) && has sorts.Int (sort_under names (substituted name by c.0))) sorts.List) a.1
+      ∙ ap (λ s. given (has sorts.List (sort_under named a.0) && has sorts.Int s && has sorts.Int (sort_under names (substituted name by c.0))) sorts.List) b.1
+      ∙ ap (λ s. given (has sorts.List (sort_under named a.0) && has sorts.Int (sort_under named b.0) && has sorts.Int s) sorts.List) c.1
+      ∙ sym (after named (Term-F.Update a.0 b.0 c.0))
+
+  pub sort_under-substituted : (term : Term) → sort_under names (substituted name by term) ≡ sort_under named term
+  sort_under-substituted =
+      ind-Term Keeps (λ x y is. subst (λ z. Keeps (roll-Term z)) is (node_kept y))

@@ -18,3 +18,10 @@ pub fn well_sorted_terms_have_values_of_their_sort()
     ensures { (env : Environment) (term : Term) (sort : Sort) →
         sort_under (sorts_of env) term ≡ Some sort → sort_of_value (value_of env term) ≡ sort }
 {}
+
+/// A term with a name replaced by a term of the name's sort has the sort that it had.
+pub fn substituting_keeps_sorts()
+    ensures { (names : List (List ℕ × Sort)) (name : List ℕ) (by term : Term) (sort : Sort) →
+        sort_under names by ≡ Some sort →
+        sort_under names (substituted name by term) ≡ sort_under (names ++ (name, sort) ∷ []) term }
+{}

@@ -24,7 +24,7 @@ mod value;
 pub use bindings::{Bindings, Env};
 pub use cert::{Cert, CertEntry};
 pub use evaluation::eval;
-pub use laws::{substituting_is_binding, well_sorted_terms_have_values_of_their_sort};
+pub use laws::{substituting_is_binding, substituting_keeps_sorts, well_sorted_terms_have_values_of_their_sort};
 pub use location::Loc;
 pub use name::Name;
 pub use operator::{BinaryOperator, UnaryOperator};
