@@ -96,7 +96,7 @@ module _ (env : Environment) where
   binary_answers operator left right a b r h k g =
       rw (value-Binary operator left right, width-Binary env operator left right, h.1, k.1)
       (gives r _ (subst (λ v. Gives r (binary operator v (value_of env right))) h.0
-          (subst (λ v. Gives r (binary operator a v)) k.0 g)))
+      (subst (λ v. Gives r (binary operator a v)) k.0 g)))
 
   pub test_fails : (e : TermRefusal) (test then otherwise : Term)
       → Answers (Err e) test → Answers (Err e) (terms.Conditional test then otherwise)
@@ -168,7 +168,7 @@ module _ (env : Environment) where
       let rest = map number_of (map (value_of env) (drop (suc k) elements)) in
       rw (add-one, append_assoc)
       (ap (λ n. numbers ++ n ∷ rest) (ap number_of h.0)
-       ∙ ap (λ l. numbers ++ map number_of (map (value_of env) l)) (sym front) ∙ same)
+      ∙ ap (λ l. numbers ++ map number_of (map (value_of env) l)) (sym front) ∙ same)
 
   pub next_width : (elements : List Term) (k : ℕ) (element : Term) (value : TermValue)
       → k < length elements → element ≡ get_or elements k element → Answers (Ok value) element
@@ -178,7 +178,7 @@ module _ (env : Environment) where
       let front : drop k elements ≡ element ∷ drop (suc k) elements = drop-cons elements k element within ∙ ap (λ t. t ∷ drop (suc k) elements) (sym is) in
       rw add-one
       (ap (λ b. b || list_any (passes_width env) (drop (suc k) elements)) (sym h.1)
-       ∙ ap (list_any (passes_width env)) (sym front) ∙ same)
+      ∙ ap (list_any (passes_width env)) (sym front) ∙ same)
 
   pub list_answers : (elements : List Term) (k : ℕ) (numbers : List ℤ) → length elements ≤ k
       → numbers ++ map number_of (map (value_of env) (drop k elements)) ≡ map number_of (map (value_of env) elements)
@@ -187,34 +187,39 @@ module _ (env : Environment) where
   list_answers elements k numbers past same same' =
       let none : drop k elements ≡ [] = drop_all k elements past in
       let all : numbers ≡ map number_of (map (value_of env) elements) =
-          sym (append-nil numbers) ∙ ap (λ l. numbers ++ map number_of (map (value_of env) l)) (sym none) ∙ same in
-      (ap values.List all ∙ sym (value-List elements),
-       width-List env elements ∙ sym same' ∙ ap (list_any (passes_width env)) none)
+      sym (append-nil numbers) ∙ ap (λ l. numbers ++ map number_of (map (value_of env) l)) (sym none) ∙ same in (
+        ap values.List all ∙ sym (value-List elements),
+        width-List env elements ∙ sym same' ∙ ap (list_any (passes_width env)) none,
+      )
 
 -- a name's value, and what is its own value
 module _ (env : Environment) where
   pub bound_answers : (name : List ℕ) (value copy : TermValue) → copy ≡ value → binding_of name env ≡ Some value
       → Answers env (Ok copy) (terms.Variable name)
-  bound_answers name value copy same found =
-      (same ∙ ap (λ o. unwrap_or o (values.Integer (pos 0))) (sym found)
-       ∙ sym (ap (value_of env) (sym (terms.rolls-Variable name)) ∙ fold-roll-Term TermValue (value_step env) (Term-F.Variable name)),
-       width-Variable env name)
+  bound_answers name value copy same found = (
+    same ∙ ap (λ o. unwrap_or o (values.Integer (pos 0))) (sym found)
+        ∙ sym (ap (value_of env) (sym (terms.rolls-Variable name)) ∙ fold-roll-Term TermValue (value_step env) (Term-F.Variable name)),
+    width-Variable env name,
+  )
 
   pub unbound_answers : (name : List ℕ) → binding_of name env ≡ None → Answers env (Ok (values.Integer (pos 0))) (terms.Variable name)
-  unbound_answers name found =
-      (ap (λ o. unwrap_or o (values.Integer (pos 0))) (sym found)
-       ∙ sym (ap (value_of env) (sym (terms.rolls-Variable name)) ∙ fold-roll-Term TermValue (value_step env) (Term-F.Variable name)),
-       width-Variable env name)
+  unbound_answers name found = (
+    ap (λ o. unwrap_or o (values.Integer (pos 0))) (sym found)
+        ∙ sym (ap (value_of env) (sym (terms.rolls-Variable name)) ∙ fold-roll-Term TermValue (value_step env) (Term-F.Variable name)),
+    width-Variable env name,
+  )
 
   pub integer_answers : (number : ℤ) → Answers env (Ok (values.Integer number)) (terms.Integer number)
-  integer_answers number =
-      (sym (ap (value_of env) (sym (terms.rolls-Integer number)) ∙ fold-roll-Term TermValue (value_step env) (Term-F.Integer number)),
-       width-Integer env number)
+  integer_answers number = (
+    sym (ap (value_of env) (sym (terms.rolls-Integer number)) ∙ fold-roll-Term TermValue (value_step env) (Term-F.Integer number)),
+    width-Integer env number,
+  )
 
   pub truth_answers : (truth : Bool) → Answers env (Ok (values.Truth truth)) (terms.Truth truth)
-  truth_answers truth =
-      (sym (ap (value_of env) (sym (terms.rolls-Truth truth)) ∙ fold-roll-Term TermValue (value_step env) (Term-F.Truth truth)),
-       width-Truth env truth)
+  truth_answers truth = (
+    sym (ap (value_of env) (sym (terms.rolls-Truth truth)) ∙ fold-roll-Term TermValue (value_step env) (Term-F.Truth truth)),
+    width-Truth env truth,
+  )
 
   pub null_answers : Answers env (Ok (values.Location locations.Null)) terms.Null
   null_answers =

@@ -24,7 +24,9 @@ mod value;
 pub use bindings::{Bindings, Env};
 pub use cert::{Cert, CertEntry};
 pub use evaluation::eval;
-pub use laws::{substituting_is_binding, substituting_keeps_sorts, well_sorted_terms_have_values_of_their_sort};
+pub use laws::{
+    substituting_is_binding, substituting_keeps_sorts, well_sorted_terms_have_values_of_their_sort,
+};
 pub use location::Loc;
 pub use name::Name;
 pub use operator::{BinaryOperator, UnaryOperator};
@@ -35,3 +37,6 @@ pub use sorting::sort_of;
 pub use substitution::subst;
 pub use term::{Prop, Term};
 pub use value::TermValue;
+
+#[cfg(test)]
+mod tests;

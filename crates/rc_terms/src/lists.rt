@@ -13,11 +13,7 @@ pub fn reversed(alloc: Global, numbers: &[i128]) -> Result<Items<i128>, AllocErr
     Ok(Items::from_vec(numbers))
 }
 
-pub fn with_front(
-    alloc: Global,
-    number: i128,
-    numbers: &[i128],
-) -> Result<Items<i128>, AllocError>
+pub fn with_front(alloc: Global, number: i128, numbers: &[i128]) -> Result<Items<i128>, AllocError>
     ensures { IfOk result (λ list. list ≡ number ∷ numbers.now) }
 {
     let mut list = Vec::new(alloc);
@@ -26,11 +22,7 @@ pub fn with_front(
     Ok(Items::from_vec(list))
 }
 
-pub fn joined(
-    alloc: Global,
-    front: &[i128],
-    back: &[i128],
-) -> Result<Items<i128>, AllocError>
+pub fn joined(alloc: Global, front: &[i128], back: &[i128]) -> Result<Items<i128>, AllocError>
     ensures { IfOk result (λ list. list ≡ front.now ++ back.now) }
 {
     let mut list = Vec::from_slice(alloc, front)?;
