@@ -1,5 +1,5 @@
 -- How large a term is (this project's own).
-use Rattle.std.specs.Prelude.{ℕ, ◌+◌, ◌<◌, ◌≤◌, sum}
+use Rattle.std.specs.Prelude.{ℕ, ◌+◌, sum}
 use Rattle.rc_terms.specs.declared.term.Term.{Term}
 use Rattle.rc_terms.specs.declared.term.Term.TheOpen.{Term-F}
 use Rattle.rc_terms.specs.declared.term.Term.TheFolds.{fold-Term}
@@ -19,3 +19,7 @@ nodes_step (Term-F.Update list index number) = 1 + list + index + number
 -- how many nodes the tree has
 abbrev pub nodes : Term → ℕ
 nodes = fold-Term ℕ nodes_step
+
+-- how many nodes a term may have
+abbrev pub most_nodes : ℕ
+most_nodes = 4096

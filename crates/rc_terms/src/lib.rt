@@ -5,6 +5,7 @@
 
 mod bindings;
 mod cert;
+mod equality;
 mod evaluation;
 mod laws;
 mod lists;
@@ -23,6 +24,7 @@ mod value;
 
 pub use bindings::{Bindings, Env};
 pub use cert::{Cert, CertEntry};
+pub use equality::is_same_term;
 pub use evaluation::eval;
 pub use laws::{
     substituting_is_binding, substituting_keeps_sorts, well_sorted_terms_have_values_of_their_sort,

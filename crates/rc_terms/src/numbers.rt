@@ -77,12 +77,10 @@ pub fn shifted_left(a: i128, b: i128) -> Option<i128>
 pub fn shifted_right(a: i128, b: i128) -> i128
     ensures { result ≡ right_shift_of a b }
 {
-    if b < 0 {
-        0
-    } else if b < 127 {
-        a >> (b as u32)
-    } else {
-        a >> 127
+    match b {
+        i128::MIN..=-1 => 0,
+        0..=126 => a >> (b as u32),
+        _ => a >> 127,
     }
 }
 

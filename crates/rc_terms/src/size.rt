@@ -1,5 +1,5 @@
 ghost use Rattle.std.specs.Prelude.{◌≡◌, ◌+◌, ◌<◌, ◌≤◌, ◌↔◌, IsTrue, MatchOption};
-ghost use Rattle.rc_terms.specs.Nodes.{nodes};
+ghost use Rattle.rc_terms.specs.Nodes.{nodes, most_nodes};
 
 use crate::term::Term;
 
@@ -8,7 +8,7 @@ pub const NODE_LIMIT: u32 = 4096;
 
 /// Whether the term has at most as many nodes as terms may have. It looks at no more nodes than that.
 pub fn is_within_limit(term: &Term) -> bool
-    ensures { IsTrue result ↔ (nodes term.now ≤ NODE_LIMIT) }
+    ensures { IsTrue result ↔ (nodes term.now ≤ most_nodes) }
 {
     nodes_left(term, NODE_LIMIT).is_some()
 }

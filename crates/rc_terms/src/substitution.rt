@@ -1,11 +1,11 @@
 ghost use Rattle.std.specs.Prelude.{◌≡◌, ◌<◌, ◌≤◌, Err, IfOk, OnOk, unwrap_or, map};
 ghost use Rattle.rc_terms.specs.declared.refusal.TermRefusal.TheVariants as refusals;
-ghost use Rattle.rc_terms.specs.Nodes.{nodes};
+ghost use Rattle.rc_terms.specs.Nodes.{nodes, most_nodes};
 ghost use Rattle.rc_terms.specs.Substitution.{substituted};
 
 use crate::name::Name;
 use crate::refusal::TermRefusal;
-use crate::size::{NODE_LIMIT, is_within_limit};
+use crate::size::is_within_limit;
 use crate::term::Term;
 use shared_values::Shared;
 use sqlite_items::Items;
@@ -15,8 +15,8 @@ use std::alloc::{AllocError, Global};
 /// by all its places.
 pub fn subst(alloc: Global, term: &Term, name: &Name, by: &Term) -> Result<Term, TermRefusal>
     ensures value { IfOk result (λ changed. changed ≡ substituted name.now by.now term.now) }
-    ensures within { OnOk result (nodes (substituted name.now by.now term.now) ≤ NODE_LIMIT) }
-    ensures limit { result ≡ Err refusals.TermLimit → NODE_LIMIT < nodes (substituted name.now by.now term.now) }
+    ensures within { OnOk result (nodes (substituted name.now by.now term.now) ≤ most_nodes) }
+    ensures limit { result ≡ Err refusals.TermLimit → most_nodes < nodes (substituted name.now by.now term.now) }
     ensures width { result ≡ Err refusals.Width → ⊥ }
 {
     let by = Shared::new(alloc, by.copy(alloc)?)?;

@@ -3,5 +3,5 @@ use Rattle.std.proofs.lemmas.Int.{ints}
 use Rattle.rc_terms.proofs.Shifts.{arithmetic_shift}
 use Rattle.rc_terms.proofs.numbers.shifted_right.Goals as goal
 
-pub returns-else-b-lt127 : goal.returns-else-b-lt127
-returns-else-b-lt127 c = arithmetic_shift c.args.a c.args.b c.ranges.a (omega (arith, ints))
+pub returns-in_default : goal.returns-in_default
+returns-in_default c = arithmetic_shift c.args.a c.args.b c.ranges.a (omega (arith, ints))
