@@ -31,19 +31,6 @@ pub fn subst(alloc: Global, term: &Term, name: &Name, by: &Term) -> Result<Term,
     }
 }
 
-/// A part after its change, or the part itself where it has none.
-fn part_after(
-    changed: Option<Shared<Term>>,
-    part: &Shared<Term>,
-) -> Result<Shared<Term>, AllocError>
-    ensures { IfOk result (λ after. after ≡ unwrap_or changed part.now) }
-{
-    match changed {
-        Some(changed) => Ok(changed),
-        None => part.share(),
-    }
-}
-
 /// The term with another in a name's place, or none where the name doesn't stand in it.
 fn replaced(
     alloc: Global,
@@ -68,7 +55,7 @@ fn replaced(
             for element in elements.as_slice() {
                 let changed = replaced(alloc, element.get(), name, by)?;
                 is_same = is_same && changed.is_none();
-                after.push(part_after(changed, element)?)?;
+                after.push(element.or_changed(changed)?)?;
             }
             if is_same {
                 Ok(None)
@@ -86,8 +73,8 @@ fn replaced(
             if new_left.is_none() && new_right.is_none() {
                 return Ok(None);
             }
-            let left = part_after(new_left, left)?;
-            let right = part_after(new_right, right)?;
+            let left = left.or_changed(new_left)?;
+            let right = right.or_changed(new_right)?;
             Ok(Some(Shared::new(alloc, Term::Binary(*operator, left, right))?))
         }
         Term::Conditional(test, then, otherwise) => {
@@ -97,9 +84,9 @@ fn replaced(
             if new_test.is_none() && new_then.is_none() && new_otherwise.is_none() {
                 return Ok(None);
             }
-            let test = part_after(new_test, test)?;
-            let then = part_after(new_then, then)?;
-            let otherwise = part_after(new_otherwise, otherwise)?;
+            let test = test.or_changed(new_test)?;
+            let then = then.or_changed(new_then)?;
+            let otherwise = otherwise.or_changed(new_otherwise)?;
             Ok(Some(Shared::new(alloc, Term::Conditional(test, then, otherwise))?))
         }
         Term::Update(list, index, number) => {
@@ -109,9 +96,9 @@ fn replaced(
             if new_list.is_none() && new_index.is_none() && new_number.is_none() {
                 return Ok(None);
             }
-            let list = part_after(new_list, list)?;
-            let index = part_after(new_index, index)?;
-            let number = part_after(new_number, number)?;
+            let list = list.or_changed(new_list)?;
+            let index = index.or_changed(new_index)?;
+            let number = number.or_changed(new_number)?;
             Ok(Some(Shared::new(alloc, Term::Update(list, index, number))?))
         }
     }
