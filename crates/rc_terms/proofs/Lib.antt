@@ -1,0 +1,6 @@
+pub mod Bits
+pub mod Evaluations
+pub mod Shifts
+pub mod SortedTerms
+pub mod Substitutions
+pub mod Widths

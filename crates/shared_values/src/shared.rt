@@ -1,0 +1,56 @@
+ghost use Rattle.std.specs.Prelude.{◌≡◌, IfOk, unwrap_or};
+
+use std::alloc::{AllocError, Global};
+use std::marker::Model;
+use std::rc::Rc;
+
+/// An `Rc` that contracts see as its value.
+#[derive(Debug, Drop)]
+pub struct Shared<T> {
+    inner: Rc<T>,
+}
+
+impl<T> Model for Shared<T> {
+    ghost Value = { T };
+
+    ghost coded = { T.code };
+
+    ghost view = { λ shared. shared.inner.value };
+}
+
+impl<T> Shared<T> {
+    pub fn get(&self) -> &T
+        ensures { result.now ≡ self.now }
+    {
+        self.inner.as_ref()
+    }
+}
+
+impl<T: Drop> Shared<T> {
+    pub fn new(alloc: Global, value: T) -> Result<Shared<T>, AllocError>
+        ensures { IfOk result (λ shared. shared ≡ value) }
+    {
+        Ok(Shared {
+            inner: Rc::new(alloc, value)?,
+        })
+    }
+
+    /// One more owner of the same value. It takes no memory, and fails only where the count of owners is full.
+    pub fn share(&self) -> Result<Shared<T>, AllocError>
+        ensures { IfOk result (λ shared. shared ≡ self.now) }
+    {
+        Ok(Shared {
+            inner: self.inner.clone()?,
+        })
+    }
+
+    /// What this became, or one more owner of it where it didn't change.
+    pub fn or_changed(&self, changed: Option<Shared<T>>) -> Result<Shared<T>, AllocError>
+        ensures { IfOk result (λ shared. shared ≡ unwrap_or changed self.now) }
+    {
+        match changed {
+            Some(changed) => Ok(changed),
+            None => self.share(),
+        }
+    }
+}
