@@ -1,0 +1,5 @@
+pub mod Divisors
+pub mod Numbers
+pub mod Derived
+pub mod Limits
+pub mod Levels

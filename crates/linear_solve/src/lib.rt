@@ -1,0 +1,21 @@
+//! Rows `0 <= sum` and `0 = sum` over unknowns, and the elimination of the unknowns over the fractions (Fourier 1826,
+//! Motzkin 1936). `specs/Levels.antt` is the definition. The layer above hands rows and the order of their unknowns to
+//! `eliminate`, and gets a row that fails, with the multipliers of the given rows, or the rows of each step.
+#![tactic(auto)]
+
+mod derived;
+mod elimination;
+mod level;
+mod limit;
+mod numbers;
+mod row_parts;
+mod step;
+
+pub use derived::Derived;
+pub use elimination::eliminate;
+pub use limit::{Limit, SolveRefusal};
+pub use numbers::Numbers;
+pub use step::{Eliminated, Step};
+
+#[cfg(test)]
+mod tests;
