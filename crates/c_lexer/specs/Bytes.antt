@@ -9,12 +9,15 @@ is_blank b = (b == 32) || (b == 9) || (b == 10) || (b == 12) || (b == 13)
 abbrev pub is_bad_byte : ℕ → Bool
 is_bad_byte b = (nat_lt b 32 && not (is_blank b)) || nat_lt 126 b || (b == 64) || (b == 36) || (b == 96) || (b == 92)
 
+-- a decimal digit
 abbrev pub is_digit : ℕ → Bool
 is_digit b = nat_le 48 b && nat_le b 57
 
+-- a digit below 8
 abbrev pub is_octal_digit : ℕ → Bool
 is_octal_digit b = nat_le 48 b && nat_le b 55
 
+-- a digit, or a letter from `a` to `f` in either case
 abbrev pub is_hexadecimal_digit : ℕ → Bool
 is_hexadecimal_digit b = is_digit b || (nat_le 65 b && nat_le b 70) || (nat_le 97 b && nat_le b 102)
 
@@ -22,6 +25,7 @@ is_hexadecimal_digit b = is_digit b || (nat_le 65 b && nat_le b 70) || (nat_le 9
 abbrev pub is_letter : ℕ → Bool
 is_letter b = (nat_le 65 b && nat_le b 90) || (nat_le 97 b && nat_le b 122) || (b == 95)
 
+-- a letter, `_` or a digit
 abbrev pub is_word_byte : ℕ → Bool
 is_word_byte b = is_letter b || is_digit b
 

@@ -16,12 +16,14 @@ use Rattle.c_lexer.specs.Comments.{CommentBegins}
 use Rattle.c_lexer.specs.Directives as directives
 use Rattle.c_lexer.specs.Directives.{Directive, DirectiveBegins, directive_macro, directive_declaration}
 
+-- what an element is: a blank, a comment, a directive, a token
 pub data ElementKind : Type 0 where
   Blank : ElementKind
   Comment : ElementKind
   DirectiveLine : Directive → ElementKind
   SingleToken : TokenKind → ElementKind
 
+-- a part of the file: what it is, and its bytes
 pub record Element : Type 0 where
   pub kind : ElementKind
   pub text : List ℕ
@@ -31,6 +33,7 @@ abbrev pub bytes_of : List Element → List ℕ
 bytes_of [] = []
 bytes_of (element ∷ earlier) = bytes_of earlier ++ element.text
 
+-- a text goes over the end of a line
 abbrev pub has_line_feed : List ℕ → Bool
 has_line_feed text = list_any (λ b. b == 10) text
 
@@ -75,12 +78,14 @@ element_macro Blank name = None
 element_macro Comment name = None
 element_macro (SingleToken kind) name = None
 
+-- what one element declares a name as
 abbrev pub element_declaration : ElementKind → List ℕ → Option TokenKind
 element_declaration (DirectiveLine directive) name = directive_declaration directive name
 element_declaration Blank name = None
 element_declaration Comment name = None
 element_declaration (SingleToken kind) name = None
 
+-- the first of two meanings that is there
 abbrev pub first_of : Option TokenKind → Option TokenKind → Option TokenKind
 first_of (Some kind) other = Some kind
 first_of None other = other
@@ -99,6 +104,7 @@ declaration_of (element ∷ earlier) name = first_of (element_declaration elemen
 abbrev pub meaning_of : List Element → List ℕ → Option TokenKind
 meaning_of elements name = first_of (macro_of elements name) (declaration_of elements name)
 
+-- what a name stands for, or an identifier
 abbrev pub or_identifier : Option TokenKind → TokenKind
 or_identifier (Some kind) = kind
 or_identifier None = kinds.Identifier
@@ -140,6 +146,7 @@ token_of Blank text meaning before = []
 token_of Comment text meaning before = []
 token_of (DirectiveLine directive) text meaning before = []
 
+-- the tokens among the elements, in order
 abbrev pub tokens_of : List Element → List Token
 tokens_of [] = []
 tokens_of (element ∷ earlier) = tokens_of earlier
@@ -157,6 +164,7 @@ abbrev pub include_by : Directive → Place → List Include
 include_by (directives.Include header) next = record { header = header; from = next } ∷ []
 include_by (directives.Define name kind) next = []
 
+-- the same of an element
 abbrev pub include_of : ElementKind → Place → List Include
 include_of (DirectiveLine directive) next = include_by directive next
 include_of Blank next = []

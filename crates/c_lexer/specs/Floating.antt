@@ -13,6 +13,7 @@ is_exponent_mark Decimal b = (b == 101) || (b == 69)
 is_exponent_mark Octal b = false
 is_exponent_mark Hexadecimal b = (b == 112) || (b == 80)
 
+-- `+` or `-`
 abbrev pub is_sign : ℕ → Bool
 is_sign b = (b == 43) || (b == 45)
 
@@ -55,5 +56,6 @@ abbrev pub IsHexadecimalFloating : List ℕ → Type 0
 IsHexadecimalFloating bytes = (rest : List ℕ) × ((bytes ≡ codes "0x" ++ rest) ⊎ (bytes ≡ codes "0X" ++ rest))
     × ((scaled : IsScaled Hexadecimal rest) × (scaled.exponent ≢ []))
 
+-- the spelling of a floating constant
 abbrev pub IsFloating : List ℕ → Type 0
 IsFloating bytes = IsDecimalFloating bytes ⊎ IsHexadecimalFloating bytes

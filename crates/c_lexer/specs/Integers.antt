@@ -11,6 +11,7 @@ use Rattle.c_lexer.specs.declared.token.IntegerSuffix.TheVariants.{UnsignedLongL
 use Rattle.c_lexer.specs.declared.token.IntegerConstant.{IntegerConstant}
 use Rattle.c_lexer.specs.Bytes.{is_digit, is_octal_digit, is_hexadecimal_digit}
 
+-- how many digits the base has
 abbrev pub radix : IntegerBase → ℕ
 radix Decimal = 10
 radix Octal = 8

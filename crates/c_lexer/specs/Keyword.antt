@@ -9,6 +9,7 @@ use Rattle.c_lexer.specs.declared.keyword.Keyword.TheVariants.{Void, Volatile, W
 use Rattle.c_lexer.specs.declared.keyword.Keyword.TheVariants.{Complex, Generic, Imaginary, Noreturn, StaticAssert}
 use Rattle.c_lexer.specs.declared.keyword.Keyword.TheVariants.{ThreadLocal, Asm}
 
+-- how each keyword is spelled, `asm` among them
 abbrev pub keyword_text : Keyword → List ℕ
 keyword_text Auto = codes "auto"
 keyword_text Break = codes "break"

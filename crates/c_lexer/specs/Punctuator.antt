@@ -14,6 +14,7 @@ use Rattle.c_lexer.specs.declared.punctuator.Punctuator.TheVariants.{Tilde, Excl
 use Rattle.c_lexer.specs.declared.punctuator.Punctuator.TheVariants.{Caret, Bar, Question, Colon, Semicolon, Assign}
 use Rattle.c_lexer.specs.declared.punctuator.Punctuator.TheVariants.{Comma, Hash}
 
+-- how each punctuator is spelled, `::` among them
 abbrev pub punctuator_text : Punctuator → List ℕ
 punctuator_text Ellipsis = codes "..."
 punctuator_text LeftShiftAssign = codes "<<="

@@ -75,6 +75,7 @@ fn is_directive(fresh: bool, bytes: &[u8], length: usize) -> bool
 }
 
 /// The directive whose `#` begins the bytes.
+#[inline(never)]
 fn directive(bytes: &[u8]) -> Result<Found, Unread>
     requires some { 0 < length bytes.now }
     requires hash { slice_index bytes.now 0 ≡ 35 }

@@ -143,6 +143,7 @@ impl Reader {
     }
 
     /// Adds a directive, whose name, where it has one, stands in the bytes.
+    #[inline(never)]
     fn add_directive(
         &mut self,
         alloc: Global,
@@ -202,6 +203,7 @@ fn kept_text(alloc: Global, kind: TokenKind, text: &[u8]) -> Result<Bytes, NoMem
 }
 
 /// The fault where no element begins the bytes.
+#[inline(never)]
 fn fault_kind(alloc: Global, bytes: &[u8], unread: Unread) -> Result<LexFaultKind, NoMemory>
     requires { CanOpen unread bytes.now }
     ensures { IfOk result (λ kind. Opens kind bytes.now) }

@@ -66,6 +66,7 @@ fn begins_comment(bytes: &[u8]) -> bool
     byte_at(bytes, 0) == b'/' && (second == b'*' || second == b'/')
 }
 
+#[inline(never)]
 fn scan_word(bytes: &[u8]) -> Scanned
     requires some { 0 < length bytes.now }
     requires letter { IsTrue (is_letter (slice_index bytes.now 0)) }
@@ -78,6 +79,7 @@ fn scan_word(bytes: &[u8]) -> Scanned
     }
 }
 
+#[inline(never)]
 fn scan_number(bytes: &[u8]) -> Result<Scanned, Unread>
     requires { IsTrue (begins_number bytes.now) }
     ensures { IsScanned bytes.now result }
@@ -99,6 +101,7 @@ fn scan_number(bytes: &[u8]) -> Result<Scanned, Unread>
     }
 }
 
+#[inline(never)]
 fn scan_string(bytes: &[u8]) -> Result<Scanned, Unread>
     requires some { 0 < length bytes.now }
     requires quote { slice_index bytes.now 0 ≡ 34 }
@@ -115,6 +118,7 @@ fn scan_string(bytes: &[u8]) -> Result<Scanned, Unread>
     }
 }
 
+#[inline(never)]
 fn scan_character(bytes: &[u8]) -> Result<Scanned, Unread>
     requires some { 0 < length bytes.now }
     requires quote { slice_index bytes.now 0 ≡ 39 }

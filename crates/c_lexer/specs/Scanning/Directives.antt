@@ -36,6 +36,7 @@ abbrev pub FollowsHash : List ℕ → Directive → List ℕ → Type 0
 FollowsHash bytes (Include header) rest = IsInclude bytes header rest
 FollowsHash bytes (Define name kind) rest = IsDefine bytes name kind rest
 
+-- the places of a directive's parts lie within the bytes
 abbrev pub AreWithin : DirectiveKind → ℕ → Type 0
 AreWithin (directives.Include header) n = Unit {0}
 AreWithin (directives.Define definition) n = (definition.start ≤ definition.end) × (definition.end ≤ n)
@@ -52,11 +53,13 @@ abbrev pub IsIdentifierBehind : List ℕ → Option Located → Type 0
 IsIdentifierBehind bytes (Some located) = (located.kind ≡ kinds.Identifier) × IsLocated bytes (Some located)
 IsIdentifierBehind bytes None = (text rest : List ℕ) → TokenBehindGap bytes kinds.Identifier text rest → ⊥
 
+-- the constant behind blanks and comments
 abbrev pub IsConstantBehind : List ℕ → Option Located → Type 0
 IsConstantBehind bytes (Some located) = IsTrue (is_constant located.kind) × IsLocated bytes (Some located)
 IsConstantBehind bytes None = (kind : TokenKind) (text rest : List ℕ) → IsTrue (is_constant kind)
     → TokenBehindGap bytes kind text rest → ⊥
 
+-- the identifier or keyword behind blanks and comments
 abbrev pub IsNameBehind : List ℕ → Option (ℕ × ℕ) → Type 0
 IsNameBehind bytes (Some name) = (name.0 ≤ name.1) × (name.1 ≤ length bytes)
     × HasName bytes (Some (slice_range bytes name.0 name.1))
@@ -70,6 +73,7 @@ pub record IsHeaderLine (bytes : List ℕ) (header : Header) (rest : List ℕ) :
   pub header_name : at_header ≡ header_text header ++ after_header
   pub end : EndsLine after_header rest
 
+-- the answer on what stands behind `include`
 abbrev pub IsIncludeBody : List ℕ → Option (Header × ℕ) → Type 0
 IsIncludeBody bytes (Some found) = (found.1 ≤ length bytes) × IsHeaderLine bytes found.0 (drop found.1 bytes)
 IsIncludeBody bytes None = (header : Header) (rest : List ℕ) → IsHeaderLine bytes header rest → ⊥
@@ -79,6 +83,7 @@ abbrev pub IsConstantLine : List ℕ → TokenKind → List ℕ → Type 0
 IsConstantLine bytes kind rest = (text : List ℕ) × (after : List ℕ) × IsTrue (is_constant kind)
     × TokenBehindGap bytes kind text after × EndsLine after rest
 
+-- the answer on a constant that stands alone on the line
 abbrev pub IsConstantLineBody : List ℕ → Option (TokenKind × ℕ) → Type 0
 IsConstantLineBody bytes (Some found) = (found.1 ≤ length bytes) × IsConstantLine bytes found.0 (drop found.1 bytes)
 IsConstantLineBody bytes None = (kind : TokenKind) (rest : List ℕ) → IsConstantLine bytes kind rest → ⊥
@@ -88,18 +93,21 @@ abbrev pub IsDefinitionLine : List ℕ → List ℕ → TokenKind → List ℕ �
 IsDefinitionLine bytes name kind rest = (after : List ℕ) × TokenBehindGap bytes kinds.Identifier name after
     × IsConstantLine after kind rest
 
+-- the answer on what stands behind `define`
 abbrev pub IsDefineBody : List ℕ → Option (Definition × ℕ) → Type 0
 IsDefineBody bytes (Some found) =
     (found.1 ≤ length bytes) × (found.0.start ≤ found.0.end) × (found.0.end ≤ length bytes)
     × IsDefinitionLine bytes (slice_range bytes found.0.start found.0.end) found.0.kind (drop found.1 bytes)
 IsDefineBody bytes None = (name : List ℕ) (kind : TokenKind) (rest : List ℕ) → IsDefinitionLine bytes name kind rest → ⊥
 
+-- the answer on an `include` behind blanks and comments
 abbrev pub IsIncludeBehind : List ℕ → ℕ → Option FoundDirective → Type 0
 IsIncludeBehind bytes end (Some found) =
     (found.length ≤ length bytes) × ((header : Header) × (found.kind ≡ directives.Include header)
     × IsHeaderLine (drop end bytes) header (drop found.length bytes))
 IsIncludeBehind bytes end None = (header : Header) (rest : List ℕ) → IsHeaderLine (drop end bytes) header rest → ⊥
 
+-- the answer on a `define` behind blanks and comments
 abbrev pub IsDefineBehind : List ℕ → ℕ → Option FoundDirective → Type 0
 IsDefineBehind bytes end (Some found) =
     (found.length ≤ length bytes)

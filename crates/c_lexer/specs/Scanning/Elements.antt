@@ -17,6 +17,7 @@ kind_in bytes founds.Comment = Comment
 kind_in bytes (founds.DirectiveLine directive) = DirectiveLine (directive_in (drop 1 bytes) directive)
 kind_in bytes (founds.SingleToken kind) = SingleToken kind
 
+-- the places of an element's parts lie within the bytes
 abbrev pub StandWithin : FoundKind → ℕ → Type 0
 StandWithin (founds.DirectiveLine directive) n = AreWithin directive n
 StandWithin founds.Blank n = Unit {0}
@@ -30,6 +31,7 @@ IsFound fresh bytes (Ok found) =
     × ElementBegins (IsTrue fresh) bytes (kind_in bytes found.kind) (take found.length bytes) (drop found.length bytes)
 IsFound fresh bytes (Err unread) = NoElementBegins (IsTrue fresh) bytes × OpensAs unread bytes
 
+-- a directive that ends with its line
 abbrev pub IsLine : List ℕ → ElementKind → List ℕ → Type 0
 IsLine bytes (DirectiveLine directive) rest = DirectiveBegins bytes directive rest
 IsLine bytes Blank rest = ⊥

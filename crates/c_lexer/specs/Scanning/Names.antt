@@ -9,6 +9,7 @@ use Rattle.c_lexer.specs.declared.names.Names.{Names}
 use Rattle.c_lexer.specs.declared.token.TokenKind.TheVariants as kinds
 use Rattle.c_lexer.specs.Elements.{first_of}
 
+-- the kind that a table of the lexer gives a name
 abbrev pub kind_of : Kinds → List ℕ → Option TokenKind
 kind_of kinds name = get_by (λ key. slice_cmp nat_cmp name key.items) kinds.by_name
 

@@ -58,5 +58,6 @@ IsMarked bases.Decimal bytes scaled = (scaled.point ≢ []) ⊎ (scaled.exponent
 IsMarked bases.Octal bytes scaled = scaled.exponent ≢ []
 IsMarked bases.Hexadecimal bytes scaled = scaled.exponent ≢ []
 
+-- the longest floating constant behind its prefix
 abbrev pub IsLongestScaled : IntegerBase → List ℕ → ℕ → Type 0
 IsLongestScaled base bytes n = IsLongest (λ front. (scaled : IsScaled base front) × IsMarked base front scaled) bytes n

@@ -22,6 +22,7 @@ is_fresh_after Comment text fresh = has_line_feed text || fresh
 is_fresh_after (DirectiveLine directive) text fresh = false
 is_fresh_after (SingleToken kind) text fresh = false
 
+-- the same behind all elements
 abbrev pub is_fresh : List Element → Bool
 is_fresh [] = true
 is_fresh (element ∷ earlier) = is_fresh_after element.kind element.text (is_fresh earlier)

@@ -57,6 +57,7 @@ pub record BeginsOtherwise (bytes : List ℕ) : Type 0 where
   pub no_comment : begins_comment bytes ≡ false
   pub no_blank : is_blank (slice_index bytes 0) ≡ false
 
+-- an identifier or a keyword
 abbrev pub is_word_kind : TokenKind → Bool
 is_word_kind kinds.Identifier = true
 is_word_kind (kinds.Keyword keyword) = true
@@ -69,6 +70,7 @@ is_word_kind kinds.StringLiteral = false
 is_word_kind (kinds.Punctuator punctuator) = false
 is_word_kind kinds.NullPointer = false
 
+-- whether a token is an identifier
 abbrev pub is_identifier : TokenKind → Bool
 is_identifier kinds.Identifier = true
 is_identifier (kinds.Keyword keyword) = false
