@@ -1,5 +1,5 @@
 -- Lists whose elements have their negations pushed.
-use Rattle.std.proofs.Common.{◌≡◌, ℕ, ◌≤◌, Bool, true, false, List, [], ◌∷◌, length, map, take, refl, ap, ◌∙◌, sym, subst}
+use Rattle.std.proofs.Common.{◌≡◌, ℕ, ◌≤◌, Bool, false, List, [], ◌∷◌, length, map, take, refl, ap, ◌∙◌, sym}
 use Rattle.std.proofs.lemmas.List.{take_all}
 use Rattle.rc_terms.specs.declared.term.Term.{Term, roll-Term}
 use Rattle.rc_terms.specs.declared.term.Term.TheOpen.{Term-F}

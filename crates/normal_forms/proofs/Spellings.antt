@@ -1,5 +1,5 @@
 -- The spelling of a term ends where the term ends, so that two terms of one spelling are one.
-use Rattle.std.proofs.Common.{◌≡◌, ℕ, zero, suc, ◌+◌, Bool, true, false, List, [], ◌∷◌, ◌++◌, length, map, refl, ap, ◌∙◌, sym, subst, ℤ, pos, negsuc, append_assoc, get_or, arith}
+use Rattle.std.proofs.Common.{◌≡◌, ℕ, ◌+◌, Bool, true, false, List, [], ◌∷◌, ◌++◌, length, map, refl, ap, ◌∙◌, sym, subst, ℤ, pos, negsuc, append_assoc, get_or, arith}
 use Rattle.rc_terms.specs.declared.term.Term.{Term, roll-Term, out-Term, roll-out-Term}
 use Rattle.rc_terms.specs.declared.term.Term.TheOpen.{Term-F}
 use Rattle.rc_terms.specs.declared.term.Term.TheFolds.{map-Term, fold-roll-Term, ind-Term}

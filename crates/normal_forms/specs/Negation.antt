@@ -6,7 +6,7 @@ use Rattle.rc_terms.specs.declared.term.Term.TheOpen.{Term-F}
 use Rattle.rc_terms.specs.declared.term.Term.TheFolds.{map-Term, fold-Term}
 use Rattle.normal_forms.specs.declared.negation.Shape.{Shape}
 use Rattle.rc_terms.specs.declared.operator.UnaryOperator.{UnaryOperator}
-use Rattle.rc_terms.specs.declared.operator.UnaryOperator.TheVariants.{Negative, Not, Length, Reverse}
+use Rattle.rc_terms.specs.declared.operator.UnaryOperator.TheVariants.{Not}
 use Rattle.rc_terms.specs.declared.operator.BinaryOperator.{BinaryOperator}
 use Rattle.rc_terms.specs.declared.operator.BinaryOperator.TheVariants.{Equal, Unequal, Below, AtMost, Above, AtLeast}
 use Rattle.rc_terms.specs.declared.operator.BinaryOperator.TheVariants.{And, Or, Implies}

@@ -1,6 +1,6 @@
 -- The operations of terms on whole numbers, which have no bound. The names are those of the terms' grammar; what each
 -- gives at the edges is this project's own.
-use Rattle.std.specs.Prelude.{ℕ, ◌-◌, ◌^◌, Bool, cond, nat_lt, Option, Some, None, bit_and, bit_or, bit_xor}
+use Rattle.std.specs.Prelude.{◌-◌, ◌^◌, Bool, cond, nat_lt, Option, Some, None, bit_and, bit_or, bit_xor}
 use Rattle.std.specs.Prelude.{ℤ, pos, negsuc, ◌*ℤ◌, int_div, int_rem}
 use Rattle.std.specs.Int.{int_div_euclid}
 use Rattle.std.specs.Ordering.{int_eq}
