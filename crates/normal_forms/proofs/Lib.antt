@@ -1,2 +1,3 @@
 pub mod Negations
+pub mod NegationValues
 pub mod Spellings

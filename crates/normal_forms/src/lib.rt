@@ -6,6 +6,8 @@ mod laws;
 mod negation;
 mod spelling;
 
-pub use laws::{spellings_tell_terms_apart, terms_are_totally_ordered};
+pub use laws::{
+    pushing_negations_keeps_values, spellings_tell_terms_apart, terms_are_totally_ordered,
+};
 pub use negation::{Shape, push_negations};
 pub use spelling::{compare, spelled};
