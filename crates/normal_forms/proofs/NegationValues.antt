@@ -143,9 +143,10 @@ module _ (env : Environment) (typed : (term : Term) (sort : Sort) → sort_under
       → pushed_step (map-Term Term Pushed (fold-Term Pushed pushed_step) x) false ≡ after
       → pushed_step (map-Term Term Pushed (fold-Term Pushed pushed_step) x) true ≡ signed true after
       → value_of env after ≡ value_of env (roll-Term x) → Keeps (roll-Term x)
-  kept x after plain negated same s e =
-      (ap (value_of env) (pushed_as false x ∙ plain) ∙ same,
-       λ _. ap (value_of env) (pushed_as true x ∙ negated) ∙ not_value after ∙ ap opposite same)
+  kept x after plain negated same s e = (
+    ap (value_of env) (pushed_as false x ∙ plain) ∙ same,
+    λ _. ap (value_of env) (pushed_as true x ∙ negated) ∙ not_value after ∙ ap opposite same,
+  )
 
   binary_value : (operator : BinaryOperator) (a b a' b' : Term) → value_of env a' ≡ value_of env a → value_of env b' ≡ value_of env b
       → value_of env (applied operator a' b') ≡ value_of env (roll-Term (Term-F.Binary operator a b))
@@ -249,7 +250,7 @@ module _ (env : Environment) (typed : (term : Term) (sort : Sort) → sort_under
   elements_keep [] e = refl
   elements_keep (part ∷ parts) e =
       let fits = both (has sorts.Int (sort_at part.0)) (list_all (has sorts.Int) (map sort_at (map (λ part. part.0) parts))) sorts.Int sorts.Int
-              (ap (λ b. given b sorts.Int) e) in
+      (ap (λ b. given b sorts.Int) e) in
       let first = (part.1 sorts.Int (has_some sorts.Int (sort_at part.0) fits.0)).0 in
       ap (λ v. number_of v ∷ map number_of (map (value_of env) (map (λ (part : Pushed). part false) (map (fold-Term Pushed pushed_step) (map (λ part. part.0) parts))))) first
       ∙ ap (λ l. number_of (value_of env part.0) ∷ l) (elements_keep parts fits.1)
@@ -258,11 +259,12 @@ module _ (env : Environment) (typed : (term : Term) (sort : Sort) → sort_under
   unary_keeps Not a s e =
       let found = chained (unary_sort Not) (sort_at a.0) s (sym (sorted_as (Term-F.Unary Not a.0)) ∙ e) in
       let bool : found.0 ≡ sorts.Bool = is_bool found.0 (alone (same_sort found.0 sorts.Bool) sorts.Bool s found.2).0 in
-      let parts = a.1 found.0 found.1 in
-      (ap (value_of env) (pushed_as false (Term-F.Unary Not a.0)) ∙ parts.1 bool ∙ sym (valued_as (Term-F.Unary Not a.0)),
-       λ _. ap (value_of env) (pushed_as true (Term-F.Unary Not a.0)) ∙ parts.0
-           ∙ sym (truth_value (value_of env a.0) (typed a.0 found.0 found.1 ∙ bool))
-           ∙ ap values.Truth (sym (not_not (truth_of (value_of env a.0)))) ∙ ap opposite (sym (valued_as (Term-F.Unary Not a.0))))
+      let parts = a.1 found.0 found.1 in (
+        ap (value_of env) (pushed_as false (Term-F.Unary Not a.0)) ∙ parts.1 bool ∙ sym (valued_as (Term-F.Unary Not a.0)),
+        λ _. ap (value_of env) (pushed_as true (Term-F.Unary Not a.0)) ∙ parts.0
+            ∙ sym (truth_value (value_of env a.0) (typed a.0 found.0 found.1 ∙ bool))
+            ∙ ap values.Truth (sym (not_not (truth_of (value_of env a.0)))) ∙ ap opposite (sym (valued_as (Term-F.Unary Not a.0))),
+      )
   unary_keeps Negative a s e =
       let found = chained (unary_sort Negative) (sort_at a.0) s (sym (sorted_as (Term-F.Unary Negative a.0)) ∙ e) in
       kept (Term-F.Unary Negative a.0) (roll-Term (Term-F.Unary Negative (pushed false a.0))) refl refl
@@ -280,9 +282,10 @@ module _ (env : Environment) (typed : (term : Term) (sort : Sort) → sort_under
   node_keeps (Term-F.Variable name) s e = kept (Term-F.Variable name) (roll-Term (Term-F.Variable name)) refl refl refl s e
   node_keeps (Term-F.Integer number) s e = kept (Term-F.Integer number) (roll-Term (Term-F.Integer number)) refl refl refl s e
   node_keeps Term-F.Null s e = kept Term-F.Null (roll-Term Term-F.Null) refl refl refl s e
-  node_keeps (Term-F.Truth truth) s e =
-      (ap (value_of env) (pushed_as false (Term-F.Truth truth)),
-       λ _. ap (value_of env) (pushed_as true (Term-F.Truth truth)) ∙ valued_as (Term-F.Truth (not truth)) ∙ ap opposite (sym (valued_as (Term-F.Truth truth))))
+  node_keeps (Term-F.Truth truth) s e = (
+    ap (value_of env) (pushed_as false (Term-F.Truth truth)),
+    λ _. ap (value_of env) (pushed_as true (Term-F.Truth truth)) ∙ valued_as (Term-F.Truth (not truth)) ∙ ap opposite (sym (valued_as (Term-F.Truth truth))),
+  )
   node_keeps (Term-F.List parts) s e =
       let terms = map (λ part. part.0) parts in
       let fits = alone (list_all (has sorts.Int) (map sort_at terms)) sorts.List s (sym (sorted_as (Term-F.List terms)) ∙ e) in
@@ -292,31 +295,33 @@ module _ (env : Environment) (typed : (term : Term) (sort : Sort) → sort_under
   node_keeps (Term-F.Unary operator a) s e = unary_keeps operator a s e
   node_keeps (Term-F.Binary operator a b) s e =
       let first = chained (λ first. option_and_then (binary_sort operator first) (sort_at b.0)) (sort_at a.0) s (sym (sorted_as (Term-F.Binary operator a.0 b.0)) ∙ e) in
-      let second = chained (binary_sort operator first.0) (sort_at b.0) s first.2 in
-      (ap (value_of env) (pushed_as false (Term-F.Binary operator a.0 b.0))
-       ∙ binary_value operator a.0 b.0 (pushed false a.0) (pushed false b.0) (a.1 first.0 first.1).0 (b.1 second.0 second.1).0,
-       λ _. ap (value_of env) (pushed_as true (Term-F.Binary operator a.0 b.0))
-           ∙ negation_value operator a b first.0 second.0 s first.1 second.1 second.2
-           ∙ ap opposite (sym (valued_as (Term-F.Binary operator a.0 b.0))))
+      let second = chained (binary_sort operator first.0) (sort_at b.0) s first.2 in (
+        ap (value_of env) (pushed_as false (Term-F.Binary operator a.0 b.0))
+            ∙ binary_value operator a.0 b.0 (pushed false a.0) (pushed false b.0) (a.1 first.0 first.1).0 (b.1 second.0 second.1).0,
+        λ _. ap (value_of env) (pushed_as true (Term-F.Binary operator a.0 b.0))
+            ∙ negation_value operator a b first.0 second.0 s first.1 second.1 second.2
+            ∙ ap opposite (sym (valued_as (Term-F.Binary operator a.0 b.0))),
+      )
   node_keeps (Term-F.Conditional a b c) s e =
       let found = chained (λ sort. given (has sorts.Bool (sort_at a.0) && has sort (sort_at c.0)) sort) (sort_at b.0) s (sym (sorted_as (Term-F.Conditional a.0 b.0 c.0)) ∙ e) in
       let fits = both (has sorts.Bool (sort_at a.0)) (has found.0 (sort_at c.0)) found.0 s found.2 in
       let test = (a.1 sorts.Bool (has_some sorts.Bool (sort_at a.0) fits.0)).0 in
       let then = b.1 found.0 found.1 in
-      let otherwise = c.1 found.0 (has_some found.0 (sort_at c.0) fits.1) in
-      (ap (value_of env) (pushed_as false (Term-F.Conditional a.0 b.0 c.0))
-       ∙ valued_as (Term-F.Conditional (pushed false a.0) (pushed false b.0) (pushed false c.0))
-       ∙ ap (λ v. cond (truth_of v) (value_of env (pushed false b.0)) (value_of env (pushed false c.0))) test
-       ∙ ap (λ v. cond (truth_of (value_of env a.0)) v (value_of env (pushed false c.0))) then.0
-       ∙ ap (λ v. cond (truth_of (value_of env a.0)) (value_of env b.0) v) otherwise.0
-       ∙ sym (valued_as (Term-F.Conditional a.0 b.0 c.0)),
-       λ bool. ap (value_of env) (pushed_as true (Term-F.Conditional a.0 b.0 c.0))
-       ∙ valued_as (Term-F.Conditional (pushed false a.0) (pushed true b.0) (pushed true c.0))
-       ∙ ap (λ v. cond (truth_of v) (value_of env (pushed true b.0)) (value_of env (pushed true c.0))) test
-       ∙ ap (λ v. cond (truth_of (value_of env a.0)) v (value_of env (pushed true c.0))) (then.1 (fits.2 ∙ bool))
-       ∙ ap (λ v. cond (truth_of (value_of env a.0)) (opposite (value_of env b.0)) v) (otherwise.1 (fits.2 ∙ bool))
-       ∙ chosen (truth_of (value_of env a.0)) (value_of env b.0) (value_of env c.0)
-       ∙ ap opposite (sym (valued_as (Term-F.Conditional a.0 b.0 c.0))))
+      let otherwise = c.1 found.0 (has_some found.0 (sort_at c.0) fits.1) in (
+        ap (value_of env) (pushed_as false (Term-F.Conditional a.0 b.0 c.0))
+            ∙ valued_as (Term-F.Conditional (pushed false a.0) (pushed false b.0) (pushed false c.0))
+            ∙ ap (λ v. cond (truth_of v) (value_of env (pushed false b.0)) (value_of env (pushed false c.0))) test
+            ∙ ap (λ v. cond (truth_of (value_of env a.0)) v (value_of env (pushed false c.0))) then.0
+            ∙ ap (λ v. cond (truth_of (value_of env a.0)) (value_of env b.0) v) otherwise.0
+            ∙ sym (valued_as (Term-F.Conditional a.0 b.0 c.0)),
+        λ bool. ap (value_of env) (pushed_as true (Term-F.Conditional a.0 b.0 c.0))
+            ∙ valued_as (Term-F.Conditional (pushed false a.0) (pushed true b.0) (pushed true c.0))
+            ∙ ap (λ v. cond (truth_of v) (value_of env (pushed true b.0)) (value_of env (pushed true c.0))) test
+            ∙ ap (λ v. cond (truth_of (value_of env a.0)) v (value_of env (pushed true c.0))) (then.1 (fits.2 ∙ bool))
+            ∙ ap (λ v. cond (truth_of (value_of env a.0)) (opposite (value_of env b.0)) v) (otherwise.1 (fits.2 ∙ bool))
+            ∙ chosen (truth_of (value_of env a.0)) (value_of env b.0) (value_of env c.0)
+            ∙ ap opposite (sym (valued_as (Term-F.Conditional a.0 b.0 c.0))),
+      )
   node_keeps (Term-F.Update a b c) s e =
       let step = sym (sorted_as (Term-F.Update a.0 b.0 c.0)) ∙ e in
       let outer = both (has sorts.List (sort_at a.0) && has sorts.Int (sort_at b.0)) (has sorts.Int (sort_at c.0)) sorts.List s step in
@@ -326,10 +331,10 @@ module _ (env : Environment) (typed : (term : Term) (sort : Sort) → sort_under
       let number = (c.1 sorts.Int (has_some sorts.Int (sort_at c.0) outer.1)).0 in
       kept (Term-F.Update a.0 b.0 c.0) (roll-Term (Term-F.Update (pushed false a.0) (pushed false b.0) (pushed false c.0))) refl refl
       (valued_as (Term-F.Update (pushed false a.0) (pushed false b.0) (pushed false c.0))
-       ∙ ap (λ v. values.List (updated (list_of v) (number_of (value_of env (pushed false b.0))) (number_of (value_of env (pushed false c.0))))) list
-       ∙ ap (λ v. values.List (updated (list_of (value_of env a.0)) (number_of v) (number_of (value_of env (pushed false c.0))))) index
-       ∙ ap (λ v. values.List (updated (list_of (value_of env a.0)) (number_of (value_of env b.0)) (number_of v))) number
-       ∙ sym (valued_as (Term-F.Update a.0 b.0 c.0))) s e
+      ∙ ap (λ v. values.List (updated (list_of v) (number_of (value_of env (pushed false b.0))) (number_of (value_of env (pushed false c.0))))) list
+      ∙ ap (λ v. values.List (updated (list_of (value_of env a.0)) (number_of v) (number_of (value_of env (pushed false c.0))))) index
+      ∙ ap (λ v. values.List (updated (list_of (value_of env a.0)) (number_of (value_of env b.0)) (number_of v))) number
+      ∙ sym (valued_as (Term-F.Update a.0 b.0 c.0))) s e
 
   pub value_of-pushed : (term : Term) → Keeps term
   value_of-pushed = ind-Term Keeps (λ x y is. subst (λ z. Keeps (roll-Term z)) is (node_keeps y))

@@ -11,3 +11,6 @@ pub use laws::{
 };
 pub use negation::{Shape, push_negations};
 pub use spelling::{compare, spelled};
+
+#[cfg(test)]
+mod tests;
