@@ -25,8 +25,8 @@ pub fn terms_are_totally_ordered()
     ensures exact { (term other : Term) → term_cmp term other ≡ orderings.Equal → term ≡ other }
 {}
 
-/// To push negations inwards keeps the value of a well-sorted term, and pushing one into a proposition gives the opposite
-/// truth value.
+/// To push negations inwards keeps the value of a well-sorted term, and to push one into a proposition gives the
+/// opposite truth value.
 pub fn pushing_negations_keeps_values()
     ensures same { (env : Environment) (term : Term) (sort : Sort) →
         sort_under (sorts_of env) term ≡ Some sort → value_of env (pushed false term) ≡ value_of env term }

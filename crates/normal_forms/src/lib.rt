@@ -1,5 +1,5 @@
-//! Normal forms of terms: one form for what is equal by the laws of sums and products. This layer has the order of terms
-//! that such a form goes by.
+//! Towards normal forms of terms, one form for what is equal: the order of terms that such a form goes by, and
+//! propositions with their negations pushed to the comparisons.
 #![tactic(auto)]
 
 mod laws;

@@ -23,7 +23,7 @@ abbrev pub shifted_right : ℤ → ℤ → ℤ
 shifted_right a (pos b) = int_div_euclid a (pos (2 ^ b))
 shifted_right a (negsuc b) = pos 0
 
--- In two's complement without a bound on the width `negsuc n` has the bits of n, each turned round, and so by De Morgan:
+-- In two's complement without a bound on the width `negsuc n` has the bits of n, each turned round. So, by De Morgan:
 -- the bits that both numbers have
 abbrev pub bits_of_both : ℤ → ℤ → ℤ
 bits_of_both (pos a) (pos b) = pos (bit_and a b)
