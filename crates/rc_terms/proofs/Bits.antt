@@ -1,5 +1,5 @@
 -- The bits of signed numbers at 128 bits are those without a bound on the width.
-use Rattle.std.proofs.Common.{◌≡◌, ℕ, suc, ◌+◌, ◌-◌, ◌*◌, ◌^◌, ◌<◌, ◌≤◌, sym, ◌∙◌, ap, subst, arith}
+use Rattle.std.proofs.Common.{◌≡◌, ℕ, suc, ◌+◌, ◌-◌, ◌^◌, ◌<◌, ◌∙◌, ap, subst, arith}
 use Rattle.std.proofs.Common.{ℤ, pos, negsuc, FitsSigned, to_z, of_z}
 use Rattle.std.specs.Int.Bits.{bit_and, bit_or, bit_xor, and_comm, and_le_l, and_le_r, and_lt, or_lt, xor_lt, or_add_and, xor_add_and}
 use Rattle.std.proofs.lemmas.Nat.{and-not}

@@ -2,12 +2,9 @@
 use Rattle.std.proofs.Common.{◌≡◌, ℕ, Bool, true, false, cond, List, [], ◌∷◌, ◌++◌, map, refl, ap, ◌∙◌, sym, subst, Option, Some, None, unwrap_or, pos}
 use Rattle.rc_terms.specs.declared.term.Term.{Term, roll-Term}
 use Rattle.rc_terms.specs.declared.term.Term.TheOpen.{Term-F}
-use Rattle.rc_terms.specs.declared.term.Term.TheFolds.{map-Term, fold-Term, fold-roll-Term, ind-Term}
+use Rattle.rc_terms.specs.declared.term.Term.TheFolds.{map-Term, fold-roll-Term, ind-Term}
 use Rattle.rc_terms.specs.declared.value.TermValue.{TermValue}
 use Rattle.rc_terms.specs.declared.value.TermValue.TheVariants as values
-use Rattle.rc_terms.specs.declared.location.Loc.TheVariants as locations
-use Rattle.rc_terms.specs.declared.sort.Sort.{Sort}
-use Rattle.rc_terms.specs.declared.sort.Sort.TheVariants as sorts
 use Rattle.rc_terms.specs.Names.{same_name}
 use Rattle.rc_terms.specs.Bindings.{binding_of, first_of_two}
 use Rattle.rc_terms.specs.Operators.{number_of, truth_of, list_of, unary, binary, updated}

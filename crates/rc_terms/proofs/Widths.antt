@@ -1,5 +1,5 @@
 -- When evaluating each form of term passes the width.
-use Rattle.std.proofs.Common.{◌≡◌, ℕ, Bool, true, false, not, ◌||◌, cond, List, [], ◌∷◌, map, refl, ap, ◌∙◌, sym, ℤ}
+use Rattle.std.proofs.Common.{◌≡◌, ℕ, Bool, false, not, ◌||◌, cond, List, [], ◌∷◌, map, refl, ap, ◌∙◌, sym, ℤ}
 use Rattle.std.specs.List.{list_any}
 use Rattle.rc_terms.specs.declared.term.Term.{Term}
 use Rattle.rc_terms.specs.declared.term.Term.TheOpen.{Term-F}

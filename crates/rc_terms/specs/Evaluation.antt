@@ -34,8 +34,8 @@ value_step env (Term-F.Update list index number) =
 abbrev pub value_of : Environment → Term → TermValue
 value_of env = fold-Term TermValue (value_step env)
 
--- whether a number is formed at a node or at the parts that its value asks that 128 bits don't hold: each part comes with
--- whether one is formed in it
+-- whether a number that 128 bits don't hold is formed at a node or in the parts that its value asks: each part comes
+-- with whether one is formed in it
 abbrev pub width_step : Environment → Term-F (Term × Bool) → Bool
 width_step env (Term-F.List elements) = list_any (λ element. element.1) elements
 width_step env (Term-F.Unary operator operand) =

@@ -1,5 +1,5 @@
 -- Names of terms, as the lists of their bytes.
-use Rattle.std.specs.Prelude.{ℕ, ◌==◌, Bool, List}
+use Rattle.std.specs.Prelude.{ℕ, Bool, List}
 use Rattle.std.specs.Str.{bytes_eq}
 
 -- whether two names are one

@@ -1,6 +1,6 @@
 -- The operations of terms on whole numbers, which have no bound. The names are those of the terms' grammar; what each
 -- gives at the edges is this project's own.
-use Rattle.std.specs.Prelude.{ℕ, ◌-◌, ◌^◌, Bool, cond, nat_lt, Option, Some, None, bit_and, bit_or, bit_xor}
+use Rattle.std.specs.Prelude.{◌-◌, ◌^◌, Bool, cond, nat_lt, Option, Some, None, bit_and, bit_or, bit_xor}
 use Rattle.std.specs.Prelude.{ℤ, pos, negsuc, ◌*ℤ◌, int_div, int_rem}
 use Rattle.std.specs.Int.{int_div_euclid}
 use Rattle.std.specs.Ordering.{int_eq}
@@ -23,7 +23,7 @@ abbrev pub shifted_right : ℤ → ℤ → ℤ
 shifted_right a (pos b) = int_div_euclid a (pos (2 ^ b))
 shifted_right a (negsuc b) = pos 0
 
--- In two's complement without a bound on the width `negsuc n` has the bits of n, each turned round, and so by De Morgan:
+-- In two's complement without a bound on the width `negsuc n` has the bits of n, each turned round. So, by De Morgan:
 -- the bits that both numbers have
 abbrev pub bits_of_both : ℤ → ℤ → ℤ
 bits_of_both (pos a) (pos b) = pos (bit_and a b)

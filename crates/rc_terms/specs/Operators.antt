@@ -1,7 +1,8 @@
--- What each operator of terms means, on values (this project's own, after the operators of C11 6.5 where it has them). An
--- operand of another sort than the operator's counts as 0, false, null or the empty list.
-use Rattle.std.specs.Prelude.{◌≡◌, Result, Ok, Err, Bool, true, false, not, ◌&&◌, ◌||◌, List, [], ◌∷◌, ◌++◌, length, reverse, take, drop}
-use Rattle.std.specs.Prelude.{ℤ, pos, negsuc, neg_ℤ, ◌+ℤ◌, ◌-ℤ◌, ◌*ℤ◌, int_lt, int_le, nat_eq, slice_set, slice_index_or}
+-- What each operator of terms means, on values (this project's own, after the operators of C11 6.5 where it has them).
+-- An operand of another sort than the operator's counts as 0, false, null or the empty list.
+use Rattle.std.specs.Prelude.{◌≡◌, Result, Ok, Err, Bool, true, false, not, ◌&&◌, ◌||◌, nat_eq}
+use Rattle.std.specs.Prelude.{List, [], ◌∷◌, ◌++◌, length, reverse, take, drop, slice_set, slice_index_or}
+use Rattle.std.specs.Prelude.{ℤ, pos, negsuc, neg_ℤ, ◌+ℤ◌, ◌-ℤ◌, ◌*ℤ◌, int_lt, int_le}
 use Rattle.std.specs.Ordering.{int_eq}
 use Rattle.std.specs.Cmp.Lexicographic.{pointwise}
 use Rattle.rc_terms.specs.declared.location.Loc.{Loc}

@@ -1,6 +1,7 @@
 ghost use Rattle.std.specs.Prelude.{◌≡◌, ◌&&◌};
 ghost use Rattle.rc_terms.specs.Sorting.{sort_under, unary_sort as unary_result, binary_sort as binary_result};
-ghost use Rattle.rc_terms.specs.Sorting.{given as sort_where, has as has_sort, are as are_sorts, same_sort, sum_sort as sort_of_sum};
+ghost use Rattle.rc_terms.specs.Sorting.{given as sort_where, has as has_sort, are as are_sorts};
+ghost use Rattle.rc_terms.specs.Sorting.{same_sort, sum_sort as sort_of_sum};
 
 use crate::operator::{BinaryOperator, UnaryOperator};
 use crate::sort::{Sort, Sorts};

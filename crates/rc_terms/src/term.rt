@@ -6,8 +6,8 @@ use shared_values::Shared;
 use sqlite_items::Items;
 use std::alloc::{AllocError, Global};
 
-/// A term of the language in which annotations speak of values (the grammar is this project's own). Its parts are shared,
-/// so that a part that is used again is not copied; contracts see the tree alone.
+/// A term of the language in which annotations speak of values (the grammar is this project's own). Its parts are
+/// shared, so that a part that is used again is not copied; contracts see the tree alone.
 #[derive(Debug, Drop)]
 pub enum Term {
     Variable(Name),

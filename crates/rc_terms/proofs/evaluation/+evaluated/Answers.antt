@@ -1,5 +1,5 @@
 -- Each answer for a term follows from those for its parts.
-use Rattle.std.proofs.Common.{◌≡◌, ◌+◌, true, false, [], ◌∷◌, ◌++◌, map, drop, sym, ◌∙◌, ap, arith, Err, Ok, rules, pos, FitsSigned}
+use Rattle.std.proofs.Common.{◌≡◌, ◌+◌, true, false, [], ◌∷◌, ◌++◌, map, drop, sym, ◌∙◌, ap, Err, Ok, rules, pos, FitsSigned}
 use mir.Syntax.{w128}
 use Rattle.rc_terms.specs.Operators.{number_of, truth_of}
 use Rattle.rc_terms.specs.Evaluation.{value_of}

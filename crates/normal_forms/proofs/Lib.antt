@@ -1,0 +1,3 @@
+pub mod Negations
+pub mod NegationValues
+pub mod Spellings
