@@ -1,4 +1,5 @@
 pub mod NumberLemmas
+pub mod Sums
 pub mod Weights
 pub mod DivisorLemmas
 pub mod TakenLemmas
@@ -6,3 +7,6 @@ pub mod RowLemmas
 pub mod Combination
 pub mod StepLemmas
 pub mod Soundness
+pub mod Signs
+pub mod Refuted
+pub mod FailingLemmas

@@ -18,7 +18,7 @@ use Rattle.linear_solve.specs.declared.derived.Derived.{Derived}
 use Rattle.linear_solve.specs.Numbers.{shared_divisor, quotients}
 use Rattle.linear_solve.specs.Derived.{given, combined, sums_of}
 use Rattle.linear_solve.proofs.NumberLemmas.{entries-empty, entries-quotients}
-use Rattle.linear_solve.specs.Sums.{weighted_sum, row_number, IsSum}
+use Rattle.linear_solve.proofs.Sums.{weighted_sum, row_number, IsSum}
 use Rattle.linear_solve.proofs.Weights.{weighted_sum-sums_of, weighted_sum-quotients, only, factor_in-only}
 use Rattle.linear_solve.proofs.Weights.{IsExact, AreExact}
 use Rattle.linear_solve.proofs.DivisorLemmas.{shared_exact, shared_positive}

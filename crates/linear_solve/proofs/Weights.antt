@@ -14,7 +14,7 @@ use Rattle.linear_certs.proofs.Integers.{add_across, mul_add, add_mul, mul_assoc
 use Rattle.linear_certs.proofs.SortedFactors.{factor_in, factor_in-cons, alone, find_absent, first_below, sorted_tail}
 use Rattle.linear_solve.specs.Numbers.{number_at, plus_at, plus_multiple, quotients}
 use Rattle.linear_solve.specs.Derived.{sums_of}
-use Rattle.linear_solve.specs.Sums.{weighted_sum}
+use Rattle.linear_solve.proofs.Sums.{weighted_sum}
 use Rattle.linear_solve.proofs.NumberLemmas.{entries-empty}
 
 -- an index below the first is not there

@@ -14,7 +14,7 @@ mod step;
 
 pub use derived::Derived;
 pub use elimination::eliminate;
-pub use laws::combined_rows_are_sums;
+pub use laws::failing_rows_give_valid_certificates;
 pub use limit::{Limit, SolveRefusal};
 pub use numbers::Numbers;
 pub use step::{Eliminated, Step};
