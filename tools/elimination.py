@@ -207,18 +207,20 @@ def string(text):
 
 
 def write():
-    cases = [(rows, unknowns, answer(rows, unknowns)) for rows, unknowns in [*BY_HAND, *by_chance(70)]]
     lines = [
         "/// Rows, the order of their unknowns, and what the elimination comes to: a limit, a row that fails with the",
         "/// multipliers of the given rows, or each unknown with the rows of its level that have it. tools/elimination.py",
         "/// wrote the answers.",
         "pub type Case = (&'static str, &'static str, &'static str);",
-        "",
-        f"pub const CASES: [Case; {len(cases)}] = [",
     ]
-    for case in cases:
-        lines += ["    (", *(f"        {string(text)}," for text in case), "    ),"]
-    lines.append("];")
+    chance = list(by_chance(70))
+    tables = [("HAND_1", BY_HAND[:20]), ("HAND_2", BY_HAND[20:38]), ("HAND_3", BY_HAND[38:])]
+    tables += [(f"CHANCE_{number + 1}", chance[number * 18 : number * 18 + 18]) for number in range(4)]
+    for name, cases in tables:
+        lines += ["", f"pub const {name}: [Case; {len(cases)}] = ["]
+        for rows, unknowns in cases:
+            lines += ["    (", *(f"        {string(text)}," for text in (rows, unknowns, answer(rows, unknowns))), "    ),"]
+        lines.append("];")
     TABLES.write_text("\n".join(lines) + "\n")
 
 

@@ -1,6 +1,12 @@
-pub mod DivisorLemmas
 pub mod NumberLemmas
+pub mod Sums
+pub mod Weights
+pub mod DivisorLemmas
 pub mod TakenLemmas
 pub mod RowLemmas
 pub mod Combination
 pub mod StepLemmas
+pub mod Soundness
+pub mod Signs
+pub mod Refuted
+pub mod FailingLemmas

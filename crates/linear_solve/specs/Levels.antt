@@ -62,16 +62,17 @@ taken_with_unknowns rows count derived =
     if list_any (λ other. same_row other.row derived.row) rows then kept rows count
     else kept (rows ++ derived ∷ []) count
 
+-- a row that was counted, by its factors
+abbrev pub taken_counted : List Derived → ℕ → Derived → List (ℕ × ℤ) → Taken
+taken_counted rows count derived [] = taken_constant rows count derived
+taken_counted rows count derived (factor ∷ more) = taken_with_unknowns rows count derived
+
 -- one row more: its numbers are looked at first, then the count
 abbrev pub taken_next : List Derived → ℕ → Derived → Taken
 taken_next rows count derived =
     if is_wide_row derived.row then passed limits.Width
     else if nat_le row_limit count then passed limits.Rows
     else taken_counted rows (count + 1) derived (entries derived.row.factors)
-  where
-    taken_counted : List Derived → ℕ → Derived → List (ℕ × ℤ) → Taken
-    taken_counted rows count derived [] = taken_constant rows count derived
-    taken_counted rows count derived (factor ∷ more) = taken_with_unknowns rows count derived
 
 -- the first limit, or else the first row that fails, ends it
 abbrev pub taken : Taken → Derived → Taken
@@ -105,14 +106,15 @@ abbrev pub pairs : ℕ → List Derived → List Derived
 pairs unknown rows =
     flat_map (λ row. paired unknown row (negative_rows unknown rows)) (positive_rows unknown rows)
 
+-- the rows that are formed, where this is the first equation
+abbrev pub formed_by : ℕ → List Derived → Option Derived → List Derived
+formed_by unknown rows (Some equation) = cleared_by unknown equation (without_first_equation rows)
+formed_by unknown rows None = pairs unknown rows
+
 -- the rows that are formed from rows which have an unknown: the others cleared by the first equation, or, where there
 -- is none, all pairs
 abbrev pub formed : ℕ → List Derived → List Derived
-formed unknown rows = formed_by (find is_equation rows)
-  where
-    formed_by : Option Derived → List Derived
-    formed_by (Some equation) = cleared_by unknown equation (without_first_equation rows)
-    formed_by None = pairs unknown rows
+formed unknown rows = formed_by unknown rows (find is_equation rows)
 
 -- the rows of a level with an unknown, and those without it
 abbrev pub rows_with : ℕ → List Derived → List Derived

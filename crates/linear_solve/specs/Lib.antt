@@ -3,3 +3,4 @@ pub mod Numbers
 pub mod Derived
 pub mod Limits
 pub mod Levels
+pub mod Failing

@@ -5,6 +5,7 @@
 
 mod derived;
 mod elimination;
+mod laws;
 mod level;
 mod limit;
 mod numbers;
@@ -13,6 +14,7 @@ mod step;
 
 pub use derived::Derived;
 pub use elimination::eliminate;
+pub use laws::failing_rows_give_valid_certificates;
 pub use limit::{Limit, SolveRefusal};
 pub use numbers::Numbers;
 pub use step::{Eliminated, Step};

@@ -1,9 +1,10 @@
 mod tables;
 
-use crate::tests::tables::CASES;
+use crate::tests::tables::{CHANCE_1, CHANCE_2, CHANCE_3, CHANCE_4, Case, HAND_1, HAND_2, HAND_3};
 use crate::{Derived, Eliminated, SolveRefusal, Step, eliminate};
 use linear_certs::{Factors, Row, RowKind};
 use std::alloc::{AllocError, Global};
+use std::process::Abort;
 use std::test::Fail;
 use whole_numbers::Whole;
 
@@ -111,10 +112,8 @@ fn same_words(text: &str, other: &str) -> bool {
     text.split_whitespace().eq(other.split_whitespace())
 }
 
-#[test]
-fn eliminates(rt: HostRuntime) -> Result<(), Fail> {
-    let alloc = rt.alloc();
-    for (rows_text, unknowns_text, expected) in &CASES {
+fn expect(rt: &impl Abort, alloc: Global, cases: &[Case]) -> Result<(), Fail> {
+    for (rows_text, unknowns_text, expected) in cases {
         let rows = rows(alloc, rows_text)?;
         let unknowns = unknowns(alloc, unknowns_text)?;
         let given = answer(alloc, &rows, &unknowns)?;
@@ -124,4 +123,19 @@ fn eliminates(rt: HostRuntime) -> Result<(), Fail> {
         );
     }
     Ok(())
+}
+
+#[test]
+fn eliminates_by_hand(rt: HostRuntime) -> Result<(), Fail> {
+    expect(&rt, rt.alloc(), &HAND_1)?;
+    expect(&rt, rt.alloc(), &HAND_2)?;
+    expect(&rt, rt.alloc(), &HAND_3)
+}
+
+#[test]
+fn eliminates_by_chance(rt: HostRuntime) -> Result<(), Fail> {
+    expect(&rt, rt.alloc(), &CHANCE_1)?;
+    expect(&rt, rt.alloc(), &CHANCE_2)?;
+    expect(&rt, rt.alloc(), &CHANCE_3)?;
+    expect(&rt, rt.alloc(), &CHANCE_4)
 }
