@@ -54,7 +54,9 @@ pub(crate) fn expect_spellings(
             continue;
         }
         let place = tokens.as_slice().get(count).ok_or("too few")?.place;
-        let at = place.byte as usize;
+        let at = usize::try_from(place.byte)
+            .ok()
+            .ok_or("a place past all files")?;
         let rest = text.as_bytes().get(at..).ok_or("a place past the end")?;
         assert!(rt;
             rest.starts_with(spelling.as_bytes()),

@@ -52,6 +52,26 @@ fn includes_give_their_macros(rt: HostRuntime) -> Result<(), Fail> {
     Ok(())
 }
 
+/// Behind the header a name is of this kind, before it an identifier, and it keeps its text.
+fn declares(
+    rt: &impl Abort,
+    alloc: Global,
+    header: &str,
+    name: &str,
+    kind: TokenKind,
+) -> Result<(), Fail> {
+    let text = format!(in alloc; "{name}\n#include <{header}.h>\n{name} {name}")?;
+    expect_kinds(rt, alloc, text.as_bytes(), &[NAME, kind, kind]);
+    let tokens = lexed(rt, alloc, text.as_bytes()).ok().ok_or("refused")?;
+    for token in tokens.as_slice() {
+        assert!(rt;
+            token.text.as_slice() == name.as_bytes(),
+            "the text of {name}"
+        );
+    }
+    Ok(())
+}
+
 /// Each name that a header declares, by its kind: before the include, behind it, and behind the others alone.
 #[test]
 fn includes_declare_their_names(rt: HostRuntime) -> Result<(), Fail> {
@@ -125,19 +145,10 @@ fn includes_declare_their_names(rt: HostRuntime) -> Result<(), Fail> {
         ("stdatomic", "atomic_int", NAME),
         ("stdatomic", "atomic_compare_exchange_weak", NAME),
     ] {
-        let text = format!(in alloc; "{name}\n#include <{header}.h>\n{name} {name}")?;
-        expect_kinds(&rt, alloc, text.as_bytes(), &[NAME, kind, kind]);
-        let tokens = lexed(&rt, alloc, text.as_bytes()).ok().ok_or("refused")?;
-        for token in tokens.as_slice() {
-            assert!(rt;
-                token.text.as_slice() == name.as_bytes(),
-                "the text of {name}"
-            );
-        }
+        declares(&rt, alloc, header, name, kind)?;
         for other in ["stddef", "stdint", "stdbool", "stdatomic", "refinedc"] {
             if other != header {
-                let text = format!(in alloc; "#include <{other}.h>\n{name}")?;
-                expect_kinds(&rt, alloc, text.as_bytes(), &[NAME]);
+                declares(&rt, alloc, other, name, NAME)?;
             }
         }
     }
