@@ -43,4 +43,5 @@ IsGap (after ∷ afters) bytes rest = GapBegins bytes after × IsGap afters afte
 
 -- the rest is what stands behind all blanks and comments
 abbrev pub IsBehindGap : List ℕ → List ℕ → Type 0
-IsBehindGap bytes rest = ((afters : List (List ℕ)) × IsGap afters bytes rest) × ((after : List ℕ) → GapBegins rest after → ⊥)
+IsBehindGap bytes rest =
+    ((afters : List (List ℕ)) × IsGap afters bytes rest) × ((after : List ℕ) → GapBegins rest after → ⊥)

@@ -8,7 +8,8 @@ use Rattle.c_lexer.specs.declared.fault.LexFault.{LexFault}
 use Rattle.c_lexer.specs.Bytes.{is_bad_byte, is_digit}
 use Rattle.c_lexer.specs.Directives.{HasName}
 use Rattle.c_lexer.specs.TokenLists.{TokenLists}
-use Rattle.c_lexer.specs.Elements.{Element, AreBeforeLine, bytes_of, AreElements, NoElementBegins, tokens_of, includes_of}
+use Rattle.c_lexer.specs.Elements.{Element, AreBeforeLine, bytes_of, AreElements, NoElementBegins, tokens_of}
+use Rattle.c_lexer.specs.Elements.{includes_of}
 
 -- the elements of the whole file give these tokens and includes, and its end is the place that follows all bytes
 abbrev pub AreTokensOf : List ℕ → TokenLists → Type 0

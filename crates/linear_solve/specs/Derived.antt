@@ -1,4 +1,5 @@
--- Rows that come from the given ones, and how an unknown is eliminated from one by another (Fourier 1826, Motzkin 1936).
+-- Rows that come from the given ones, and how an unknown is eliminated from one by another (Fourier 1826, Motzkin
+-- 1936).
 use Rattle.std.specs.Prelude.{ℕ, List, ℤ, pos, neg_ℤ, ◌+ℤ◌, ◌*ℤ◌, unsigned_abs, int_div, int_lt, Bool, not}
 use Rattle.std.specs.Prelude.{if◌then◌else◌}
 use Rattle.std.specs.Ordering.{int_eq, nat_cmp}

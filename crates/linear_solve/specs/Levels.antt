@@ -1,5 +1,6 @@
 -- The levels of the elimination. Level 0 is the given rows; each level has one unknown less than the one before.
-use Rattle.std.specs.Prelude.{ℕ, ◌+◌, List, [], ◌∷◌, ◌++◌, map, filter, fold, Option, Some, None, Result, Ok, Err, ℤ, pos, Bool, true, false}
+use Rattle.std.specs.Prelude.{ℕ, ◌+◌, List, [], ◌∷◌, ◌++◌, map, filter, fold, Option, Some, None, Result, Ok, Err}
+use Rattle.std.specs.Prelude.{ℤ, pos, Bool, true, false}
 use Rattle.std.specs.Prelude.{◌&&◌, not, int_le, int_lt, nat_le, if◌then◌else◌, find, ◌==◌}
 use Rattle.std.specs.List.{list_any, flat_map}
 use Rattle.std.specs.Ordering.{int_eq}

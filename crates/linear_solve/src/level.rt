@@ -1,7 +1,9 @@
-ghost use Rattle.std.specs.Prelude.{◌≡◌, ◌≤◌, ◌+◌, ◌<◌, false, fold, [], position, IfOk, IfErr, MatchOption, if◌then◌else◌};
+ghost use Rattle.std.specs.Prelude.{◌≡◌, ◌≤◌, ◌+◌, ◌<◌, false, fold, [], position};
+ghost use Rattle.std.specs.Prelude.{IfOk, IfErr, MatchOption, if◌then◌else◌};
 ghost use Rattle.std.specs.List.{list_any};
 ghost use Rattle.linear_solve.specs.Limits.{is_wide, is_wide_row, OnLimit};
-ghost use Rattle.linear_solve.specs.Levels.{taken_next, taken, kept, failing, passed, same_row, says_truly, first_level};
+ghost use Rattle.linear_solve.specs.Levels.{taken_next, taken, kept, failing, passed, same_row, says_truly};
+ghost use Rattle.linear_solve.specs.Levels.{first_level};
 ghost use Rattle.linear_solve.specs.Levels.{formed, cleared_by, pairs, paired, negative_rows, is_equation};
 
 use crate::derived::Derived;
@@ -128,14 +130,16 @@ impl Level {
         rows: &[Derived],
     ) -> Result<Option<Derived>, SolveRefusal>
         ensures ok { IfOk result (λ failing_row. MatchOption failing_row
-            (fold taken (kept self.old.rows.items self.old.count) (paired unknown row.now (negative_rows unknown rows.now))
+            (fold taken (kept self.old.rows.items self.old.count)
+            (paired unknown row.now (negative_rows unknown rows.now))
             ≡ kept self.new.rows.items self.new.count)
             (λ failing_row.
             fold taken (kept self.old.rows.items self.old.count)
             (paired unknown row.now (negative_rows unknown rows.now))
             ≡ failing failing_row)) }
         ensures limit { IfErr result (λ refusal. OnLimit refusal (λ limit.
-            fold taken (kept self.old.rows.items self.old.count) (paired unknown row.now (negative_rows unknown rows.now))
+            fold taken (kept self.old.rows.items self.old.count)
+            (paired unknown row.now (negative_rows unknown rows.now))
             ≡ passed limit)) }
     {
         for other in rows {

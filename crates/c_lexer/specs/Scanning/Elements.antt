@@ -6,7 +6,8 @@ use Rattle.c_lexer.specs.declared.element.FoundKind.{FoundKind}
 use Rattle.c_lexer.specs.declared.scanner.Unread.TheVariants as unreads
 use Rattle.c_lexer.specs.declared.element.FoundKind.TheVariants as founds
 use Rattle.c_lexer.specs.Directives.{Directive, DirectiveBegins}
-use Rattle.c_lexer.specs.Elements.{ElementKind, Blank, Comment, DirectiveLine, SingleToken, ElementBegins, NoElementBegins}
+use Rattle.c_lexer.specs.Elements.{ElementKind, Blank, Comment, DirectiveLine, SingleToken, ElementBegins}
+use Rattle.c_lexer.specs.Elements.{NoElementBegins}
 use Rattle.c_lexer.specs.Scanning.Tokens.{OpensAs}
 use Rattle.c_lexer.specs.Scanning.Directives.{directive_in, AreWithin}
 

@@ -9,7 +9,8 @@ use Rattle.c_lexer.specs.declared.reader.Reader.{Reader}
 use Rattle.c_lexer.specs.declared.tokens.Include.{Include}
 use Rattle.c_lexer.specs.declared.token.Token.{Token}
 use Rattle.c_lexer.specs.declared.fault.LexRefusal.TheVariants as refusals
-use Rattle.c_lexer.specs.Elements.{ElementKind, Blank, Comment, DirectiveLine, SingleToken, Element, has_line_feed, bytes_of, AreElements}
+use Rattle.c_lexer.specs.Elements.{ElementKind, Blank, Comment, DirectiveLine, SingleToken, Element}
+use Rattle.c_lexer.specs.Elements.{has_line_feed, bytes_of, AreElements}
 use Rattle.c_lexer.specs.Elements.{macro_of, declaration_of, tokens_of, includes_of}
 use Rattle.c_lexer.specs.TokenLists.{TokenLists}
 use Rattle.c_lexer.specs.Files.{AreTokensOf, IsFaultOf, token_limit}
