@@ -6,6 +6,8 @@ use crate::{
     TokenKind,
 };
 use rc_text::Place;
+use std::alloc::Global;
+use std::process::Abort;
 use std::test::Fail;
 
 const NAME: TokenKind = TokenKind::Identifier;
