@@ -1,3 +1,0 @@
-pub mod Negations
-pub mod NegationValues
-pub mod Spellings

@@ -1,2 +1,0 @@
-pub mod Negation
-pub mod Spelling
