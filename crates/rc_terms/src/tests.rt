@@ -332,26 +332,42 @@ fn puts_terms_in_a_names_place(rt: HostRuntime) -> Result<(), Fail> {
     Ok(())
 }
 
-/// A sum of 2,048 times `x` has 4,095 nodes, and each minus before it adds one.
+/// The sum of 2,048 times `x`, which has 4,095 nodes.
+fn large_sum(alloc: Global) -> Result<Term, Fail> {
+    let x = name(alloc, "x")?;
+    let twice = term(alloc, "x x add")?;
+    let mut sum = term(alloc, "x")?;
+    for _ in 0..11 {
+        sum = subst(alloc, &sum, &x, &twice)?;
+    }
+    Ok(sum)
+}
+
+fn negative(alloc: Global, operand: Term) -> Result<Term, Fail> {
+    let operand = Shared::new(alloc, operand)?;
+    Ok(Term::Unary(UnaryOperator::Negative, operand))
+}
+
+/// Whether `y` in the place of `x` passes the limit on nodes.
+fn passes_the_limit(alloc: Global, term: &Term, x: &Name, y: &Term) -> bool {
+    match subst(alloc, term, x, y) {
+        Ok(_) => false,
+        Err(refusal) => refusal == TermRefusal::TermLimit,
+    }
+}
+
+/// A minus before a term adds a node.
 #[test]
 fn stops_past_the_greatest_size(rt: HostRuntime) -> Result<(), Fail> {
     let alloc = rt.alloc();
     let x = name(alloc, "x")?;
-    let mut sum = term(alloc, "x")?;
-    for _ in 0..11 {
-        sum = subst(alloc, &sum, &x, &term(alloc, "x x add")?)?;
-    }
-    let most = Term::Unary(UnaryOperator::Negative, Shared::new(alloc, sum)?);
+    let y = term(alloc, "y")?;
+    let most = negative(alloc, large_sum(alloc)?)?;
     assert!(rt; is_within_limit(&most));
-    let same = subst(alloc, &most, &x, &term(alloc, "y")?)?;
-    assert!(rt; is_within_limit(&same));
-    let more = Term::Unary(UnaryOperator::Negative, Shared::new(alloc, most)?);
+    assert!(rt; !passes_the_limit(alloc, &most, &x, &y));
+    let more = negative(alloc, most)?;
     assert!(rt; !is_within_limit(&more));
-    let refused = match subst(alloc, &more, &x, &term(alloc, "y")?) {
-        Err(refusal) => refusal == TermRefusal::TermLimit,
-        Ok(_) => false,
-    };
-    assert!(rt; refused);
+    assert!(rt; passes_the_limit(alloc, &more, &x, &y));
     Ok(())
 }
 
