@@ -9,8 +9,8 @@ use Rattle.std.proofs.lemmas.Bool.{cases_eq}
 use Rattle.std.proofs.lemmas.List.Sums.{sum_by-set, sum_by-cons}
 use Rattle.std.proofs.lemmas.Option.{slice_get-get_or, slice_get_read, get_or_from_slice_get}
 use Rattle.std.proofs.Math.Seq.{get_or-append_seam}
-use Rattle.byte_memory.specs.declared.byte.MByte.{MByte}
-use Rattle.byte_memory.specs.declared.byte.MByte.TheVariants as bytes
+use Rattle.rc_terms.specs.declared.byte.MByte.{MByte}
+use Rattle.rc_terms.specs.declared.byte.MByte.TheVariants as bytes
 use Rattle.byte_memory.specs.declared.cell.Cell.{Cell}
 use Rattle.byte_memory.specs.declared.cell.Cell.TheVariants.{Plain, Poison, Wide}
 use Rattle.byte_memory.specs.Cells.{byte_seen, bytes_seen, places_taken, AreInPlace}

@@ -6,8 +6,8 @@ use Rattle.std.proofs.Common.{◌∙◌, arith}
 use Rattle.std.proofs.Common.{ℤ, pos, append_assoc, unsigned_abs}
 use Rattle.std.proofs.lemmas.List.{take_all, take_more_set, append-nil}
 use Rattle.std.specs.Int.{int_rem_euclid, int_div_euclid}
-use Rattle.byte_memory.specs.declared.byte.MByte.{MByte}
-use Rattle.byte_memory.specs.declared.byte.MByte.TheVariants.{Byte}
+use Rattle.rc_terms.specs.declared.byte.MByte.{MByte}
+use Rattle.rc_terms.specs.declared.byte.MByte.TheVariants.{Byte}
 use Rattle.byte_memory.specs.Encoding.{low_byte, upper_bytes, bytes_from_low}
 
 -- one more byte was taken from the rest of a number

@@ -11,7 +11,7 @@ use Rattle.std.proofs.lemmas.List.{same_lists, get_or-take, get_or-drop}
 use Rattle.std.proofs.lemmas.Grind.{common_steps}
 use Rattle.rc_terms.specs.declared.location.Loc.{Loc}
 use Rattle.rc_terms.specs.declared.location.Loc.TheVariants.{Null, At}
-use Rattle.byte_memory.specs.declared.byte.MByte.{MByte}
+use Rattle.rc_terms.specs.declared.byte.MByte.{MByte}
 use Rattle.byte_memory.specs.declared.block.Block.{Block}
 use Rattle.byte_memory.specs.declared.block.Block.TheVariants.{Open, Closed}
 use Rattle.byte_memory.specs.Memory.{live_bytes, block_length, bytes_at, length_at, fault_within, fault_in, fault_of}

@@ -12,7 +12,7 @@ use Rattle.layouts.specs.IntType.{int_bytes_of, IsInRange}
 use Rattle.std.proofs.Math.Nat.{pow-succ'}
 use Rattle.std.proofs.lemmas.Nat.{div_below}
 use Rattle.std.proofs.lemmas.Grind.{common_steps}
-use Rattle.byte_memory.specs.declared.byte.MByte.TheVariants.{Byte}
+use Rattle.rc_terms.specs.declared.byte.MByte.TheVariants.{Byte}
 use Rattle.byte_memory.specs.Encoding.{bytes_from_low, natural_of, int_bytes, enc, number_from}
 use Rattle.byte_memory.specs.Values.{plain_bytes, int_of}
 

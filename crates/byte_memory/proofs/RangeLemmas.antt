@@ -9,7 +9,7 @@ use Rattle.std.proofs.Common.{drop-cons, slice_get}
 use Rattle.std.proofs.lemmas.Grind.{common_steps}
 use Rattle.std.proofs.lemmas.List.{take_more, set_at, get_or-drop}
 use Rattle.std.proofs.lemmas.Option.{get_or_from_slice_get}
-use Rattle.byte_memory.specs.declared.byte.MByte.{MByte}
+use Rattle.rc_terms.specs.declared.byte.MByte.{MByte}
 use Rattle.byte_memory.specs.declared.fault.MemoryUb.TheVariants.{OutOfBounds, Misaligned}
 use Rattle.byte_memory.specs.Memory.{fault_within}
 

@@ -1,7 +1,7 @@
 -- How the bytes of an open block are kept: this project's own.
 use Rattle.std.specs.Prelude.{◌≡◌, ℕ, ◌<◌, List, map, length, sum_by, slice_index_or}
-use Rattle.byte_memory.specs.declared.byte.MByte.{MByte}
-use Rattle.byte_memory.specs.declared.byte.MByte.TheVariants as bytes
+use Rattle.rc_terms.specs.declared.byte.MByte.{MByte}
+use Rattle.rc_terms.specs.declared.byte.MByte.TheVariants as bytes
 use Rattle.byte_memory.specs.declared.cell.Cell.{Cell}
 use Rattle.byte_memory.specs.declared.cell.Cell.TheVariants.{Plain, Poison, Wide}
 

@@ -4,8 +4,8 @@ use Rattle.std.specs.Prelude.{if◌then◌else◌}
 use Rattle.std.specs.Int.{int_div_euclid, int_rem_euclid}
 use Rattle.layouts.specs.declared.int_type.IntType.{IntType}
 use Rattle.layouts.specs.IntType.{int_bytes_of, greatest_of}
-use Rattle.byte_memory.specs.declared.byte.MByte.{MByte}
-use Rattle.byte_memory.specs.declared.byte.MByte.TheVariants.{Byte}
+use Rattle.rc_terms.specs.declared.byte.MByte.{MByte}
+use Rattle.rc_terms.specs.declared.byte.MByte.TheVariants.{Byte}
 
 -- the least significant byte of a number: its remainder by 256, which isn't negative
 abbrev pub low_byte : ℤ → ℕ

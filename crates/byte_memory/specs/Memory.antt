@@ -5,8 +5,8 @@ use Rattle.std.specs.Prelude.{List, [], ◌∷◌, ◌++◌, length, take, drop,
 use Rattle.std.specs.Prelude.{Option, Some, None, option_map, unwrap_or, option_and_then, IsSome}
 use Rattle.rc_terms.specs.declared.location.Loc.{Loc}
 use Rattle.rc_terms.specs.declared.location.Loc.TheVariants.{Null, At}
-use Rattle.byte_memory.specs.declared.byte.MByte.{MByte}
-use Rattle.byte_memory.specs.declared.byte.MByte.TheVariants.{Poison}
+use Rattle.rc_terms.specs.declared.byte.MByte.{MByte}
+use Rattle.rc_terms.specs.declared.byte.MByte.TheVariants.{Poison}
 use Rattle.byte_memory.specs.declared.block.Block.{Block}
 use Rattle.byte_memory.specs.declared.block.Block.TheVariants.{Open, Closed}
 use Rattle.byte_memory.specs.declared.fault.MemoryUb.{MemoryUb}

@@ -5,8 +5,8 @@ use Rattle.std.specs.Prelude.{option_and_then}
 use Rattle.layouts.specs.declared.int_type.IntType.{IntType}
 use Rattle.layouts.specs.IntType.{int_bytes_of}
 use Rattle.rc_terms.specs.declared.location.Loc.{Loc}
-use Rattle.byte_memory.specs.declared.byte.MByte.{MByte}
-use Rattle.byte_memory.specs.declared.byte.MByte.TheVariants.{Byte, Frag, Poison}
+use Rattle.rc_terms.specs.declared.byte.MByte.{MByte}
+use Rattle.rc_terms.specs.declared.byte.MByte.TheVariants.{Byte, Frag, Poison}
 use Rattle.byte_memory.specs.Encoding.{natural_of, number_from}
 
 -- a byte of memory, where it is plain

@@ -1,13 +1,13 @@
 ghost use Rattle.std.specs.Prelude.{◌≡◌, ◌+◌, ◌≤◌, ◌<◌, ◌++◌, ◌^◌, length, take, drop, replicate, IfOk};
 ghost use Rattle.std.specs.Prelude.{slice_get, slice_set};
 ghost use Rattle.std.specs.Prelude.{None, Some, OnOk, pos};
-ghost use Rattle.byte_memory.specs.declared.byte.MByte.TheVariants as bytes;
+ghost use Rattle.rc_terms.specs.declared.byte.MByte.TheVariants as bytes;
 ghost use Rattle.byte_memory.specs.declared.fault.MemoryUb.{MemoryUb};
 
-use crate::byte::MByte;
 use crate::cell::Cell;
 use crate::fault::MemoryUb;
 use crate::value::Value;
+use rc_terms::MByte;
 use rc_text::NoMemory;
 use std::alloc::Global;
 use std::marker::Model;
@@ -45,7 +45,7 @@ pub struct BlockBytes {
 
 impl Model for BlockBytes {
     ghost use Rattle.std.specs.Prelude.{List, ◌≤◌, ◌<◌, ◌^◌, length, vec_capacity};
-    ghost use Rattle.byte_memory.specs.declared.byte.MByte.{MByte};
+    ghost use Rattle.rc_terms.specs.declared.byte.MByte.{MByte};
     ghost use Rattle.byte_memory.specs.Cells.{bytes_seen, AreInPlace};
 
     ghost Value = { List MByte };

@@ -6,8 +6,8 @@ ghost use Rattle.byte_memory.specs.Values.{int_of};
 ghost use Rattle.layouts.specs.declared.int_type.IntType.{IntType};
 ghost use Rattle.layouts.specs.IntType.{IsInRange};
 ghost use Rattle.std.specs.Prelude.{ℤ};
-ghost use Rattle.byte_memory.specs.declared.byte.MByte.{MByte};
-ghost use Rattle.byte_memory.specs.declared.byte.MByte.TheVariants.{Poison};
+ghost use Rattle.rc_terms.specs.declared.byte.MByte.{MByte};
+ghost use Rattle.rc_terms.specs.declared.byte.MByte.TheVariants.{Poison};
 ghost use Rattle.byte_memory.specs.Memory.{fault_of, range_of, stored, opened, closed, bytes_at, length_at, AreApart};
 
 /// What was stored is loaded, and an access that had no fault before a store has none after it.

@@ -3,7 +3,6 @@
 #![tactic(auto)]
 
 mod block;
-mod byte;
 mod cell;
 mod encoding;
 mod fault;
@@ -13,7 +12,6 @@ mod memory;
 mod tests;
 mod value;
 
-pub use byte::MByte;
 pub use encoding::encode_int;
 pub use fault::{LoadFault, MemoryUb};
 pub use laws::{
@@ -21,4 +19,5 @@ pub use laws::{
     stored_is_loaded, stores_beside_change_nothing, stores_keep_faults,
 };
 pub use memory::Memory;
+pub use rc_terms::MByte;
 pub use value::{NotBool, Value};

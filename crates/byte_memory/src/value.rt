@@ -2,12 +2,11 @@ ghost use Rattle.std.specs.Prelude.{◌≡◌, List, [], ◌∷◌, ◌++◌, le
 ghost use Rattle.byte_memory.specs.Encoding.{enc, natural_of, number_from};
 ghost use Rattle.rc_terms.specs.declared.location.Loc.{Loc};
 ghost use Rattle.byte_memory.specs.Values.{bool_bytes, ptr, int_of, plain_byte, plain_bytes};
-ghost use Rattle.byte_memory.specs.declared.byte.MByte.TheVariants as bytes;
+ghost use Rattle.rc_terms.specs.declared.byte.MByte.TheVariants as bytes;
 ghost use Rattle.std.specs.Prelude.{ℕ, ◌<◌, ◌≤◌, ◌^◌, option_map, IfSome, IfNone};
 
-use crate::byte::MByte;
 use layouts::{IntType, size_of_int};
-use rc_terms::Loc;
+use rc_terms::{Loc, MByte};
 use rc_text::NoMemory;
 use std::alloc::Global;
 use std::marker::Model;
@@ -20,7 +19,7 @@ pub struct Value {
 
 impl Model for Value {
     ghost use Rattle.std.specs.Prelude.{List};
-    ghost use Rattle.byte_memory.specs.declared.byte.MByte.{MByte};
+    ghost use Rattle.rc_terms.specs.declared.byte.MByte.{MByte};
 
     ghost Value = { List MByte };
 

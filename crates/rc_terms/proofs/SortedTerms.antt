@@ -41,6 +41,7 @@ plus_has (values.Integer n) b s t e = given_is _ sorts.Int t e
 plus_has (values.Location l) b s t e = given_is _ sorts.Loc t e
 plus_has (values.Truth c) b s t e = cc
 plus_has (values.List l) b s t e = cc
+plus_has (values.Bytes l) b s t e = cc
 
 binary_has : (operator : BinaryOperator) (a b : TermValue) (s t : Sort)
     → binary_sort operator (sort_of_value a) s ≡ Some t → sort_of_value (binary operator a b) ≡ t
@@ -107,6 +108,7 @@ same_is sorts.Int sorts.Int e = refl
 same_is sorts.Bool sorts.Bool e = refl
 same_is sorts.Loc sorts.Loc e = refl
 same_is sorts.List sorts.List e = refl
+same_is sorts.Val sorts.Val e = refl
 same_is sorts.Int sorts.Bool e = cc
 same_is sorts.Int sorts.Loc e = cc
 same_is sorts.Int sorts.List e = cc
@@ -119,6 +121,14 @@ same_is sorts.Loc sorts.List e = cc
 same_is sorts.List sorts.Int e = cc
 same_is sorts.List sorts.Bool e = cc
 same_is sorts.List sorts.Loc e = cc
+same_is sorts.Val sorts.Int e = cc
+same_is sorts.Int sorts.Val e = cc
+same_is sorts.Val sorts.Bool e = cc
+same_is sorts.Bool sorts.Val e = cc
+same_is sorts.Val sorts.Loc e = cc
+same_is sorts.Loc sorts.Val e = cc
+same_is sorts.Val sorts.List e = cc
+same_is sorts.List sorts.Val e = cc
 
 has_is : (s : Sort) (o : Option Sort) → has s o ≡ true → o ≡ Some s
 has_is s None e = cc

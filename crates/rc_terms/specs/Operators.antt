@@ -5,6 +5,8 @@ use Rattle.std.specs.Prelude.{List, [], ◌∷◌, ◌++◌, length, reverse, ta
 use Rattle.std.specs.Prelude.{ℤ, pos, negsuc, neg_ℤ, ◌+ℤ◌, ◌-ℤ◌, ◌*ℤ◌, int_lt, int_le}
 use Rattle.std.specs.Ordering.{int_eq}
 use Rattle.std.specs.Cmp.Lexicographic.{pointwise}
+use Rattle.rc_terms.specs.declared.byte.MByte.{MByte}
+use Rattle.rc_terms.specs.declared.byte.MByte.TheVariants as bytes
 use Rattle.rc_terms.specs.declared.location.Loc.{Loc}
 use Rattle.rc_terms.specs.declared.location.Loc.TheVariants as locations
 use Rattle.rc_terms.specs.declared.refusal.TermRefusal.{TermRefusal}
@@ -58,6 +60,13 @@ same_location locations.Null locations.Null = true
 same_location (locations.At block offset) (locations.At other distance) = nat_eq block other && int_eq offset distance
 same_location location other = false
 
+-- whether two bytes of memory are one
+abbrev pub same_byte : MByte → MByte → Bool
+same_byte (bytes.Byte byte) (bytes.Byte other) = nat_eq byte other
+same_byte (bytes.Frag location place) (bytes.Frag other second) = same_location location other && nat_eq place second
+same_byte bytes.Poison bytes.Poison = true
+same_byte byte other = false
+
 -- whether two values are one
 abbrev pub same : TermValue → TermValue → Bool
 same (values.Integer number) (values.Integer other) = int_eq number other
@@ -65,6 +74,7 @@ same (values.Truth true) (values.Truth other) = other
 same (values.Truth false) (values.Truth other) = not other
 same (values.Location location) (values.Location other) = same_location location other
 same (values.List numbers) (values.List others) = pointwise int_eq numbers others
+same (values.Bytes held) (values.Bytes others) = pointwise same_byte held others
 same value other = false
 
 -- whether the location is null or the number divides its offset

@@ -23,6 +23,7 @@ same_sort sorts.Int sorts.Int = true
 same_sort sorts.Bool sorts.Bool = true
 same_sort sorts.Loc sorts.Loc = true
 same_sort sorts.List sorts.List = true
+same_sort sorts.Val sorts.Val = true
 same_sort sort other = false
 
 -- a sort, where the test holds
@@ -100,6 +101,7 @@ sort_of_value (values.Integer number) = sorts.Int
 sort_of_value (values.Truth truth) = sorts.Bool
 sort_of_value (values.Location location) = sorts.Loc
 sort_of_value (values.List numbers) = sorts.List
+sort_of_value (values.Bytes bytes) = sorts.Val
 
 -- the sorts of the names of an environment
 abbrev pub sorts_of : List (List ℕ × TermValue) → List (List ℕ × Sort)

@@ -1,9 +1,10 @@
-//! The language in which annotations speak of numbers, truth values, locations and lists: terms, what they mean, and
-//! terms with a name replaced. The layers above write terms, and use `eval` and `subst`. Certificates stand here too,
-//! as plain data that several crates share.
+//! The language in which annotations speak of numbers, truth values, locations, lists and values of memory: terms, what
+//! they mean, and terms with a name replaced. The layers above write terms, and use `eval` and `subst`. Certificates and
+//! bytes of memory stand here too, as plain data that several crates share.
 #![tactic(auto)]
 
 mod bindings;
+mod byte;
 mod cert;
 mod equality;
 mod evaluation;
@@ -23,6 +24,7 @@ mod term;
 mod value;
 
 pub use bindings::{Bindings, Env};
+pub use byte::MByte;
 pub use cert::{Cert, CertEntry};
 pub use equality::is_same_term;
 pub use evaluation::eval;

@@ -1,11 +1,13 @@
 //! What the operators of terms give on values.
 ghost use Rattle.std.specs.Prelude.{◌≡◌, MatchOption, Ok, Err};
+ghost use Rattle.std.specs.Cmp.Lexicographic.{pointwise};
 ghost use Rattle.rc_terms.specs.declared.refusal.TermRefusal.TheVariants as refusals;
 ghost use Rattle.rc_terms.specs.declared.value.TermValue.TheVariants as values;
 ghost use Rattle.rc_terms.specs.Operators.{plus as sum_of, same as is_same, same_location as is_same_location};
 ghost use Rattle.rc_terms.specs.Operators.{is_aligned as aligned_by, unary as unary_value, binary as binary_value};
-ghost use Rattle.rc_terms.specs.Operators.{Gives};
+ghost use Rattle.rc_terms.specs.Operators.{Gives, same_byte as is_same_byte};
 
+use crate::byte::MByte;
 use crate::lists::{element, first_numbers, joined, numbers_past, reversed, with_front};
 use crate::location::Loc;
 use crate::numbers;
@@ -66,6 +68,34 @@ fn same_location(left: Loc, right: Loc) -> bool
     }
 }
 
+fn same_byte(byte: MByte, other: MByte) -> bool
+    ensures { result ≡ is_same_byte byte other }
+{
+    match (byte, other) {
+        (MByte::Byte(byte), MByte::Byte(other)) => byte == other,
+        (MByte::Frag(location, place), MByte::Frag(other, second)) => {
+            same_location(location, other) && place == second
+        }
+        (MByte::Poison, MByte::Poison) => true,
+        _ => false,
+    }
+}
+
+/// Whether two lists of bytes are one.
+fn same_bytes(bytes: &[MByte], others: &[MByte]) -> bool
+    ensures { result ≡ pointwise is_same_byte bytes.now others.now }
+{
+    if bytes.len() != others.len() {
+        return false;
+    }
+    for index in 0..bytes.len() {
+        if !same_byte(bytes[index], others[index]) {
+            return false;
+        }
+    }
+    true
+}
+
 /// Whether two values are one.
 fn same(left: &TermValue, right: &TermValue) -> bool
     ensures { result ≡ is_same left.now right.now }
@@ -77,6 +107,9 @@ fn same(left: &TermValue, right: &TermValue) -> bool
             same_location(*location, *other)
         }
         (TermValue::List(list), TermValue::List(other)) => list.as_slice() == other.as_slice(),
+        (TermValue::Bytes(bytes), TermValue::Bytes(others)) => {
+            same_bytes(bytes.as_slice(), others.as_slice())
+        }
         _ => false,
     }
 }

@@ -12,6 +12,8 @@ pub enum Sort {
     Loc,
     /// A list of whole numbers.
     List,
+    /// A value of memory: bytes as a place holds them. No text names this sort.
+    Val,
 }
 
 /// Names with their sorts.

@@ -52,6 +52,7 @@ fn same(sort: Sort, other: Sort) -> bool
         (Sort::Bool, Sort::Bool) => true,
         (Sort::Loc, Sort::Loc) => true,
         (Sort::List, Sort::List) => true,
+        (Sort::Val, Sort::Val) => true,
         _ => false,
     }
 }

@@ -407,3 +407,15 @@ fn finds_sorts(rt: HostRuntime) -> Result<(), Fail> {
     }
     Ok(())
 }
+
+/// A term as deep as the limit on nodes lets it be is let go: each level takes its share of the stack.
+#[test]
+fn lets_go_of_the_deepest_term(rt: HostRuntime) -> Result<(), Fail> {
+    let alloc = rt.alloc();
+    let mut deepest = Term::Truth(true);
+    for _ in 1..NODE_LIMIT {
+        deepest = Term::Unary(UnaryOperator::Not, Shared::new(alloc, deepest)?);
+    }
+    assert!(rt; is_within_limit(&deepest));
+    Ok(())
+}

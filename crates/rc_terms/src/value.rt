@@ -1,5 +1,6 @@
 ghost use Rattle.std.specs.Prelude.{◌≡◌, IfOk};
 
+use crate::byte::MByte;
 use crate::location::Loc;
 use sqlite_items::Items;
 use std::alloc::{AllocError, Global};
@@ -11,6 +12,7 @@ pub enum TermValue {
     Truth(bool),
     Location(Loc),
     List(Items<i128>),
+    Bytes(Items<MByte>),
 }
 
 impl TermValue {
@@ -66,6 +68,9 @@ impl TermValue {
             TermValue::Location(location) => TermValue::Location(*location),
             TermValue::List(numbers) => {
                 TermValue::List(Items::from_slice(alloc, numbers.as_slice())?)
+            }
+            TermValue::Bytes(bytes) => {
+                TermValue::Bytes(Items::from_slice(alloc, bytes.as_slice())?)
             }
         })
     }

@@ -2,7 +2,7 @@
 use Rattle.std.proofs.Common.{◌≡◌, ℕ, ◌<◌, List, [], refl, subst, arith}
 use Rattle.std.specs.Prelude.{Option, Some, None, Contains, Result, Ok, Err}
 use Rattle.layouts.specs.declared.table.Table.{Table}
-use Rattle.byte_memory.specs.declared.byte.MByte.{MByte}
+use Rattle.rc_terms.specs.declared.byte.MByte.{MByte}
 use Rattle.byte_memory.specs.declared.memory.Memory.{Memory}
 use Rattle.caesium_ir.specs.declared.operation.Op.{Op}
 use Rattle.caesium_ir.specs.declared.operation.Op.TheVariants.{Const, Poison}

@@ -9,7 +9,7 @@ use Rattle.std.proofs.lemmas.List.{append-nil}
 use Rattle.std.proofs.lemmas.Slice.Eq.{bytes_eq-Decides}
 use Rattle.caesium_ir.specs.declared.literal_places.LiteralPlaces.{LiteralPlaces}
 use Rattle.layouts.specs.declared.int_type.IntType.TheVariants.{Int}
-use Rattle.byte_memory.specs.declared.byte.MByte.{MByte}
+use Rattle.rc_terms.specs.declared.byte.MByte.{MByte}
 use Rattle.byte_memory.specs.declared.memory.Memory.{Memory}
 use Rattle.byte_memory.specs.Encoding.{int_bytes, enc}
 use Rattle.caesium_ir.specs.declared.function.Function.{Function}

@@ -1,7 +1,7 @@
 -- Which bytes of memory a step touches (this project's own).
 use Rattle.std.specs.Prelude.{ℕ, ◌≡◌, ◌+◌, ◌≤◌, ◌<◌, Bool, List, [], Option, Some, None, Result, Ok, Err}
 use Rattle.layouts.specs.declared.table.Table.{Table}
-use Rattle.byte_memory.specs.declared.byte.MByte.{MByte}
+use Rattle.rc_terms.specs.declared.byte.MByte.{MByte}
 use Rattle.byte_memory.specs.declared.memory.Memory.{Memory}
 use Rattle.caesium_ir.specs.declared.operation.Op.{Op}
 use Rattle.caesium_ir.specs.declared.operation.Op.TheVariants.{Const, Poison}

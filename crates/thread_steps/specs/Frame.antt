@@ -1,6 +1,6 @@
 -- How a frame changes (this project's own).
 use Rattle.std.specs.Prelude.{ℕ, ◌+◌, List, [], ◌∷◌, codes, reverse, take, drop, Option, Some, None}
-use Rattle.byte_memory.specs.declared.byte.MByte.{MByte}
+use Rattle.rc_terms.specs.declared.byte.MByte.{MByte}
 use Rattle.thread_steps.specs.declared.frame.Frame.{Frame}
 
 -- a call of the function that has done nothing: at its block `.`, before the first operation, with an empty row

@@ -2,8 +2,8 @@
 -- so that a semantics of structured C may use it, as CompCert's Clight uses its operators.
 use Rattle.std.specs.Prelude.{ℕ, List, [], replicate, Option, Some, Result, Ok, Err}
 use Rattle.layouts.specs.declared.table.Table.{Table}
-use Rattle.byte_memory.specs.declared.byte.MByte.{MByte}
-use Rattle.byte_memory.specs.declared.byte.MByte.TheVariants as bytes
+use Rattle.rc_terms.specs.declared.byte.MByte.{MByte}
+use Rattle.rc_terms.specs.declared.byte.MByte.TheVariants as bytes
 use Rattle.byte_memory.specs.declared.memory.Memory.{Memory}
 use Rattle.byte_memory.specs.Encoding.{enc}
 use Rattle.caesium_ir.specs.declared.operation.Op.{Op}

@@ -1,7 +1,7 @@
 -- What a run must not come to, and what it must answer (this project's own).
 use Rattle.std.specs.Prelude.{ℕ, ◌≡◌, List, ◌∷◌, Option, Some, slice_get}
 use Rattle.std.specs.List.{AllByRecursion}
-use Rattle.byte_memory.specs.declared.byte.MByte.{MByte}
+use Rattle.rc_terms.specs.declared.byte.MByte.{MByte}
 use Rattle.caesium_ir.specs.declared.program.Program.{Program}
 use Rattle.thread_steps.specs.declared.thread.Thread.TheVariants.{Finished}
 use Rattle.thread_steps.specs.Configuration.{Configuration}

@@ -1,6 +1,6 @@
 -- What a thread is started with, and what it is to return (this project's own).
 use Rattle.std.specs.Prelude.{ℕ, List, map, Option}
-use Rattle.byte_memory.specs.declared.byte.MByte.{MByte}
+use Rattle.rc_terms.specs.declared.byte.MByte.{MByte}
 
 -- the function that the thread calls, and the value that it is to return; none of a void function
 pub record Start : Type 0 where

@@ -4,7 +4,7 @@ use Rattle.std.specs.Prelude.{◌≡◌, ◌==◌, if◌then◌else◌, List, []
 use Rattle.layouts.specs.declared.layout.Layout.{Layout}
 use Rattle.layouts.specs.declared.table.Table.{Table}
 use Rattle.layouts.specs.Table.{bytes_of}
-use Rattle.byte_memory.specs.declared.byte.MByte.{MByte}
+use Rattle.rc_terms.specs.declared.byte.MByte.{MByte}
 use Rattle.byte_memory.specs.declared.memory.Memory.{Memory}
 use Rattle.caesium_ir.specs.declared.operation.Op.{Op}
 use Rattle.caesium_ir.specs.declared.block.End.{End}

@@ -1,6 +1,6 @@
 -- How a thread begins, ends and goes on after a return (this project's own).
 use Rattle.std.specs.Prelude.{ℕ, List, [], ◌∷◌, Option}
-use Rattle.byte_memory.specs.declared.byte.MByte.{MByte}
+use Rattle.rc_terms.specs.declared.byte.MByte.{MByte}
 use Rattle.thread_steps.specs.declared.frame.Frame.{Frame}
 use Rattle.thread_steps.specs.declared.thread.Thread.{Thread}
 use Rattle.thread_steps.specs.declared.thread.Thread.TheVariants.{Running, Finished}

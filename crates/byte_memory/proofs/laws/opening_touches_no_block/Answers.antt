@@ -1,6 +1,6 @@
 use Rattle.std.proofs.Common.{arith, ap, replicate, option_and_then, ◌∷◌, []}
 use Rattle.std.proofs.lemmas.Option.{slice_get_past}
-use Rattle.byte_memory.specs.declared.byte.MByte.TheVariants.{Poison}
+use Rattle.rc_terms.specs.declared.byte.MByte.TheVariants.{Poison}
 use Rattle.byte_memory.specs.declared.block.Block.TheVariants.{Open}
 use Rattle.byte_memory.specs.Memory.{live_bytes}
 use Rattle.byte_memory.proofs.MemoryLemmas.{slice_get-append_left, slice_get-append_seam}

@@ -1,5 +1,5 @@
 use Rattle.std.proofs.Common.{arith, ap, length, List}
-use Rattle.byte_memory.specs.declared.byte.MByte.{MByte}
+use Rattle.rc_terms.specs.declared.byte.MByte.{MByte}
 use Rattle.byte_memory.proofs.CellLemmas.{length-bytes_seen}
 use Rattle.byte_memory.proofs.block.BlockBytes.len.Goals as goal
 

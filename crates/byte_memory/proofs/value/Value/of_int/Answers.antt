@@ -1,7 +1,7 @@
 use Rattle.std.proofs.Common.{ap, ◌∙◌, rules, map, FitsSigned}
 use Rattle.std.proofs.lemmas.Int.{to_z-of_z}
 use Rattle.std.specs.Int.{w128}
-use Rattle.byte_memory.specs.declared.byte.MByte.TheVariants.{Byte}
+use Rattle.rc_terms.specs.declared.byte.MByte.TheVariants.{Byte}
 use Rattle.byte_memory.specs.Encoding.{int_bytes, enc, bytes_from_low}
 use Rattle.byte_memory.proofs.EncodingLemmas.{pushed_more, pushed_all}
 use Rattle.byte_memory.proofs.value.Value.of_int.Goals as goal

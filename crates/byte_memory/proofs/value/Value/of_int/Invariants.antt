@@ -1,5 +1,5 @@
 use Rattle.std.proofs.Common.{◌≡◌, ◌-◌, ◌++◌, map}
-use Rattle.byte_memory.specs.declared.byte.MByte.TheVariants.{Byte}
+use Rattle.rc_terms.specs.declared.byte.MByte.TheVariants.{Byte}
 use Rattle.byte_memory.specs.Encoding.{bytes_from_low}
 use Rattle.byte_memory.proofs.value.Value.of_int.Given as goal
 
