@@ -1,0 +1,2 @@
+pub mod KeyNodes
+pub mod Keys

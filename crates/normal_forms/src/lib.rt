@@ -1,0 +1,10 @@
+//! One form for what is equal by the laws of rings: an order of all terms, and terms and propositions in normal form. The
+//! layers above compare terms, sizes, offsets and locations by it.
+#![tactic(auto)]
+
+mod key;
+mod laws;
+mod order;
+
+pub use laws::terms_are_in_one_order;
+pub use order::compare_terms;
