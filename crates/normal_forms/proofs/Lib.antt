@@ -1,2 +1,5 @@
 pub mod KeyNodes
 pub mod Keys
+pub mod Negations
+pub mod Pushes
+pub mod Values

@@ -1,12 +1,22 @@
 //! What is known of the order and of normal forms, as contracts that need no call.
-ghost use Rattle.std.specs.Prelude.{◌≡◌};
+ghost use Rattle.std.specs.Prelude.{◌≡◌, Bool, not, cond};
 ghost use Rattle.std.specs.Cmp.{IsTotalOrder};
 ghost use Rattle.std.specs.declared.cmp.Ordering.TheVariants.{Equal};
 ghost use Rattle.rc_terms.specs.declared.term.Term.{Term};
+ghost use Rattle.rc_terms.specs.Operators.{truth_of};
+ghost use Rattle.rc_terms.specs.Evaluation.{Environment, value_of};
 ghost use Rattle.normal_forms.specs.Order.{term_order};
+ghost use Rattle.normal_forms.specs.Negation.{pushed};
 
 /// The order of terms is total and transitive, and holds two terms equal only where they are one.
 pub fn terms_are_in_one_order()
     ensures total { IsTotalOrder term_order }
     ensures apart { (term other : Term) → term_order term other ≡ Equal → term ≡ other }
+{}
+
+/// A term with its negations pushed inwards holds where the term does, and its negation's where it doesn't, in every
+/// environment.
+pub fn pushing_negations_keeps_truth()
+    ensures { (env : Environment) (term : Term) (negative : Bool) → let holds = truth_of (value_of env term) in
+        truth_of (value_of env (pushed term negative)) ≡ cond negative (not holds) holds }
 {}

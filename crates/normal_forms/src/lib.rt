@@ -4,7 +4,9 @@
 
 mod key;
 mod laws;
+mod negation;
 mod order;
 
-pub use laws::terms_are_in_one_order;
+pub use laws::{pushing_negations_keeps_truth, terms_are_in_one_order};
+pub use negation::pushed;
 pub use order::compare_terms;

@@ -1,4 +1,4 @@
-use Rattle.std.proofs.Common.{◌≡◌, ℕ, ℤ, FitsSigned, List, ◌+◌, ◌++◌, ◌∷◌, [], ◌<◌, length, map, take, ap, sym, ◌∙◌, add-one, append_assoc, arith, rules}
+use Rattle.std.proofs.Common.{◌≡◌, ℕ, ℤ, FitsSigned, List, ◌++◌, ◌∷◌, [], length, map, take, ap, sym, ◌∙◌, add-one, rules}
 use Rattle.std.proofs.lemmas.Int.{to_z-of_z}
 use mir.Syntax.{w128}
 use Rattle.std.proofs.lemmas.List.{take_all}

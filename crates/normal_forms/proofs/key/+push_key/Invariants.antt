@@ -1,4 +1,4 @@
-use Rattle.std.proofs.Common.{◌≡◌, ◌++◌, ◌∷◌, [], length, map, take}
+use Rattle.std.proofs.Common.{◌≡◌, ◌++◌, map, take}
 use Rattle.std.specs.List.{concat}
 use Rattle.normal_forms.specs.Order.{key_of}
 use Rattle.normal_forms.proofs.key.+push_key.Given as goal
