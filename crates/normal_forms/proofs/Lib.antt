@@ -1,3 +1,5 @@
+pub mod Expansions
+pub mod Integers
 pub mod KeyNodes
 pub mod Keys
 pub mod Negations

@@ -1,12 +1,15 @@
 //! What is known of the order and of normal forms, as contracts that need no call.
-ghost use Rattle.std.specs.Prelude.{◌≡◌, Bool, not, cond};
+ghost use Rattle.std.specs.Prelude.{◌≡◌, Bool, not, cond, Some};
 ghost use Rattle.std.specs.Cmp.{IsTotalOrder};
 ghost use Rattle.std.specs.declared.cmp.Ordering.TheVariants.{Equal};
 ghost use Rattle.rc_terms.specs.declared.term.Term.{Term};
-ghost use Rattle.rc_terms.specs.Operators.{truth_of};
+ghost use Rattle.rc_terms.specs.declared.sort.Sort.TheVariants as sorts;
+ghost use Rattle.rc_terms.specs.Operators.{truth_of, number_of};
+ghost use Rattle.rc_terms.specs.Sorting.{sort_under, sorts_of};
 ghost use Rattle.rc_terms.specs.Evaluation.{Environment, value_of};
 ghost use Rattle.normal_forms.specs.Order.{term_order};
 ghost use Rattle.normal_forms.specs.Negation.{pushed};
+ghost use Rattle.normal_forms.specs.Polynomials.{expanded, sum_value};
 
 /// The order of terms is total and transitive, and holds two terms equal only where they are one.
 pub fn terms_are_in_one_order()
@@ -19,4 +22,10 @@ pub fn terms_are_in_one_order()
 pub fn pushing_negations_keeps_truth()
     ensures { (env : Environment) (term : Term) (negative : Bool) → let holds = truth_of (value_of env term) in
         truth_of (value_of env (pushed term negative)) ≡ cond negative (not holds) holds }
+{}
+
+/// A number is what its summands add up to, in every environment of its names' sorts.
+pub fn expanding_keeps_values()
+    ensures { (env : Environment) (term : Term) → sort_under (sorts_of env) term ≡ Some sorts.Int →
+        number_of (value_of env term) ≡ sum_value env (expanded term) }
 {}

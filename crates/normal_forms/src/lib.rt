@@ -6,7 +6,9 @@ mod key;
 mod laws;
 mod negation;
 mod order;
+mod summand;
 
-pub use laws::{pushing_negations_keeps_truth, terms_are_in_one_order};
+pub use laws::{expanding_keeps_values, pushing_negations_keeps_truth, terms_are_in_one_order};
 pub use negation::pushed;
 pub use order::compare_terms;
+pub use summand::Summand;

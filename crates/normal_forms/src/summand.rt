@@ -1,0 +1,11 @@
+//! Sums of products of opaque terms.
+use rc_terms::Term;
+use shared_values::Shared;
+use sqlite_items::Items;
+
+/// A product of terms that are opaque to the laws of rings, with a whole factor.
+#[derive(Debug, Drop)]
+pub struct Summand {
+    pub factor: i128,
+    pub product: Items<Shared<Term>>,
+}
