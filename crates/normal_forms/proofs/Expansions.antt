@@ -32,7 +32,7 @@ plus_number (values.List l) b e = refl
 plus_number (values.Bytes l) b e = refl
 
 -- the operands of a sum, a difference and a product that is a number are numbers
-add_sorts : (a b : Sort) → binary_sort binary.Add a b ≡ Some sorts.Int → (a ≡ sorts.Int) × (b ≡ sorts.Int)
+pub add_sorts : (a b : Sort) → binary_sort binary.Add a b ≡ Some sorts.Int → (a ≡ sorts.Int) × (b ≡ sorts.Int)
 add_sorts sorts.Int sorts.Int e = (refl, refl)
 add_sorts sorts.Loc sorts.Int e = cc
 add_sorts sorts.Loc sorts.Bool e = cc
@@ -41,11 +41,11 @@ add_sorts sorts.Loc sorts.List e = cc
 add_sorts sorts.Loc sorts.Val e = cc
 add_sorts a b e = cc
 
-subtract_sorts : (a b : Sort) → binary_sort binary.Subtract a b ≡ Some sorts.Int → (a ≡ sorts.Int) × (b ≡ sorts.Int)
+pub subtract_sorts : (a b : Sort) → binary_sort binary.Subtract a b ≡ Some sorts.Int → (a ≡ sorts.Int) × (b ≡ sorts.Int)
 subtract_sorts sorts.Int sorts.Int e = (refl, refl)
 subtract_sorts a b e = cc
 
-multiply_sorts : (a b : Sort) → binary_sort binary.Multiply a b ≡ Some sorts.Int → (a ≡ sorts.Int) × (b ≡ sorts.Int)
+pub multiply_sorts : (a b : Sort) → binary_sort binary.Multiply a b ≡ Some sorts.Int → (a ≡ sorts.Int) × (b ≡ sorts.Int)
 multiply_sorts sorts.Int sorts.Int e = (refl, refl)
 multiply_sorts a b e = cc
 
@@ -53,7 +53,7 @@ negative_sort : (a : Sort) → unary_sort unary.Negative a ≡ Some sorts.Int �
 negative_sort sorts.Int e = refl
 negative_sort a e = cc
 
-operand_sorts : (operator : BinaryOperator) (x y : Option Sort)
+pub operand_sorts : (operator : BinaryOperator) (x y : Option Sort)
     → ((a b : Sort) → binary_sort operator a b ≡ Some sorts.Int → (a ≡ sorts.Int) × (b ≡ sorts.Int))
     → option_and_then (λ first. option_and_then (binary_sort operator first) y) x ≡ Some sorts.Int
     → (x ≡ Some sorts.Int) × (y ≡ Some sorts.Int)
@@ -61,7 +61,7 @@ operand_sorts operator None y are e = cc
 operand_sorts operator (Some a) None are e = cc
 operand_sorts operator (Some a) (Some b) are e = let h = are a b e in (ap Some h.0, ap Some h.1)
 
-operand_sort : (x : Option Sort) → option_and_then (unary_sort unary.Negative) x ≡ Some sorts.Int → x ≡ Some sorts.Int
+pub operand_sort : (x : Option Sort) → option_and_then (unary_sort unary.Negative) x ≡ Some sorts.Int → x ≡ Some sorts.Int
 operand_sort None e = cc
 operand_sort (Some a) e = ap Some (negative_sort a e)
 

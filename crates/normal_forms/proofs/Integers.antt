@@ -67,3 +67,9 @@ pub products_meet : (a b c d : ℤ) → (a *ℤ b) *ℤ (c *ℤ d) ≡ (a *ℤ c
 products_meet a b c d =
     mul_assoc a b (c *ℤ d) ∙ ap (λ x. a *ℤ x) (sym (mul_assoc b c d) ∙ ap (λ x. x *ℤ d) (*ℤ_comm b c) ∙ mul_assoc c b d)
     ∙ sym (mul_assoc a c (b *ℤ d))
+
+pub add_swap : (a b c : ℤ) → a +ℤ (b +ℤ c) ≡ b +ℤ (a +ℤ c)
+add_swap a b c = omega (arith, ints)
+
+pub mul_swap_front : (a b c : ℤ) → a *ℤ (b *ℤ c) ≡ b *ℤ (a *ℤ c)
+mul_swap_front a b c = sym (mul_assoc a b c) ∙ ap (λ x. x *ℤ c) (*ℤ_comm a b) ∙ mul_assoc b a c

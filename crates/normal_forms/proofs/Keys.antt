@@ -205,3 +205,28 @@ pub terms_apart : (term other : Term) → term_order term other ≡ Equal → te
 terms_apart term other e =
     let same : key_of term ≡ key_of other = slice_cmp-IsAntisymmetric nat_cmp-IsAntisymmetric (key_of term) (key_of other) e in
     (reads term other [] [] (ap (λ k. k ++ []) same)).0
+
+-- a key begins with a number
+begins : (x : Term-F (List ℕ)) (r : List ℕ) → key_step x ++ r ≡ [] → ⊥
+begins (Term-F.Variable name) r e = cc
+begins (Term-F.Integer number) r e = cc
+begins (Term-F.Truth truth) r e = cc
+begins Term-F.Null r e = cc
+begins (Term-F.List elements) r e = cc
+begins (Term-F.Unary operator a) r e = cc
+begins (Term-F.Binary operator a b) r e = cc
+begins (Term-F.Conditional a b c) r e = cc
+begins (Term-F.Update a b c) r e = cc
+
+nonempty : (term : Term) (r : List ℕ) → key_of term ++ r ≡ [] → ⊥
+nonempty =
+    ind-Term (λ term. (r : List ℕ) → key_of term ++ r ≡ [] → ⊥)
+    (λ x z is r e. begins (map-Term Term (List ℕ) key_of x) r (ap (λ k. k ++ r) (sym (key_at x)) ∙ e))
+
+pub products_apart : (terms others : List Term) → concat (map key_of terms) ≡ concat (map key_of others) → terms ≡ others
+products_apart [] [] e = refl
+products_apart [] (t ∷ others) e = absurd (nonempty t (concat (map key_of others)) (sym e))
+products_apart (t ∷ terms) [] e = absurd (nonempty t (concat (map key_of terms)) e)
+products_apart (t ∷ terms) (u ∷ others) e =
+    let h = reads t u (concat (map key_of terms)) (concat (map key_of others)) e in
+    ap (λ x. x ∷ terms) h.0 ∙ ap (λ l. u ∷ l) (products_apart terms others h.1)

@@ -1,7 +1,12 @@
+pub mod Arrangements
 pub mod Expansions
+pub mod Expands
+pub mod Gathering
 pub mod Integers
 pub mod KeyNodes
 pub mod Keys
 pub mod Negations
 pub mod Pushes
+pub mod SumValues
 pub mod Values
+pub mod WholeSums

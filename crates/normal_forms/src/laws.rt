@@ -10,6 +10,7 @@ ghost use Rattle.rc_terms.specs.Evaluation.{Environment, value_of};
 ghost use Rattle.normal_forms.specs.Order.{term_order};
 ghost use Rattle.normal_forms.specs.Negation.{pushed};
 ghost use Rattle.normal_forms.specs.Polynomials.{expanded, sum_value};
+ghost use Rattle.normal_forms.specs.Sums.{normal_sum};
 
 /// The order of terms is total and transitive, and holds two terms equal only where they are one.
 pub fn terms_are_in_one_order()
@@ -28,4 +29,10 @@ pub fn pushing_negations_keeps_truth()
 pub fn expanding_keeps_values()
     ensures { (env : Environment) (term : Term) → sort_under (sorts_of env) term ≡ Some sorts.Int →
         number_of (value_of env term) ≡ sum_value env (expanded term) }
+{}
+
+/// A number in normal form has the value that it had, in every environment of its names' sorts.
+pub fn normal_sums_keep_values()
+    ensures { (env : Environment) (term : Term) → sort_under (sorts_of env) term ≡ Some sorts.Int →
+        value_of env (normal_sum term) ≡ value_of env term }
 {}

@@ -2,13 +2,22 @@
 //! layers above compare terms, sizes, offsets and locations by it.
 #![tactic(auto)]
 
+mod expansion;
+mod failure;
 mod key;
 mod laws;
 mod negation;
 mod order;
+mod polynomial;
+mod product;
+mod sum;
 mod summand;
 
-pub use laws::{expanding_keeps_values, pushing_negations_keeps_truth, terms_are_in_one_order};
+pub use laws::{
+    expanding_keeps_values, normal_sums_keep_values, pushing_negations_keeps_truth,
+    terms_are_in_one_order,
+};
 pub use negation::pushed;
 pub use order::compare_terms;
+pub use sum::normal_sum;
 pub use summand::Summand;
