@@ -7,6 +7,7 @@ pub mod KeyNodes
 pub mod Keys
 pub mod Negations
 pub mod Pushes
+pub mod Stages
 pub mod SumValues
 pub mod Values
 pub mod WholeSums

@@ -7,6 +7,7 @@ mod failure;
 mod key;
 mod laws;
 mod negation;
+mod normal;
 mod order;
 mod polynomial;
 mod product;
@@ -18,6 +19,7 @@ pub use laws::{
     terms_are_in_one_order,
 };
 pub use negation::pushed;
+pub use normal::normal_term;
 pub use order::compare_terms;
 pub use sum::normal_sum;
 pub use summand::Summand;

@@ -31,7 +31,7 @@ pub fn normal_sum(alloc: Global, term: &Term) -> Result<Term, TermRefusal>
 }
 
 /// The same, of any size.
-fn written(alloc: Global, term: &Term) -> Result<Term, Failure>
+pub fn written(alloc: Global, term: &Term) -> Result<Term, Failure>
     ensures { IfOk result (λ sum. sum ≡ sum_in_order term.now) }
 {
     let mut summands = Items::new(alloc);
