@@ -1,7 +1,6 @@
 -- Factors one by one.
 use Rattle.std.proofs.Common.{◌≡◌, ℕ, zero, suc, ◌<◌, List, [], ◌∷◌, ◌++◌, length, map, take, get_or, ap, ◌∙◌, sym, append_assoc, append-nil, arith}
 use Rattle.std.specs.List.{concat}
-use Rattle.rc_terms.specs.declared.term.Term.{Term}
 use Rattle.normal_forms.specs.declared.product.Factor.{Factor}
 
 pub one_key_more : (items : List Factor) (i : ℕ) (item : Factor) → i < length items → item ≡ get_or items i item

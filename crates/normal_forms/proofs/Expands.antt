@@ -1,5 +1,5 @@
 -- The summands of each form of node, and what signs do to sums.
-use Rattle.std.proofs.Common.{◌≡◌, ℕ, Bool, true, false, not, cond, List, [], ◌∷◌, ◌++◌, map, refl, ap, ◌∙◌, sym, ℤ, pos, negsuc, ◌*ℤ◌, neg_ℤ, Result, Ok, Err, append_assoc, arith}
+use Rattle.std.proofs.Common.{◌≡◌, ℕ, Bool, true, false, not, List, [], ◌∷◌, ◌++◌, map, refl, ap, ◌∙◌, sym, ℤ, negsuc, ◌*ℤ◌, Result, Ok, Err, arith}
 use Rattle.std.proofs.lemmas.Int.{ints}
 use Rattle.std.specs.Result.{OnOk}
 use Rattle.rc_terms.specs.declared.term.Term.{Term, roll-Term}

@@ -1,8 +1,7 @@
 -- A term of the sort of numbers is what its summands add up to.
-use Rattle.std.proofs.Common.{◌≡◌, ℕ, Bool, cond, List, [], ◌∷◌, ◌++◌, map, refl, ap, ◌∙◌, sym, subst, ℤ, pos, negsuc, ◌+ℤ◌, ◌-ℤ◌, ◌*ℤ◌, neg_ℤ, Option, Some, None, arith}
+use Rattle.std.proofs.Common.{◌≡◌, List, [], ◌∷◌, ◌++◌, map, refl, ap, ◌∙◌, sym, subst, ℤ, pos, negsuc, ◌+ℤ◌, ◌-ℤ◌, ◌*ℤ◌, neg_ℤ, Option, Some, None}
 use Rattle.std.specs.Option.{option_and_then}
-use Rattle.std.proofs.lemmas.Int.{ints}
-use Rattle.std.proofs.Math.IntN.{*ℤ_comm, *ℤ-zero, zero-*ℤ, +ℤ_assoc, +ℤ_idl, +ℤ_idr}
+use Rattle.std.proofs.Math.IntN.{*ℤ-zero, zero-*ℤ, +ℤ_assoc, +ℤ_idl, +ℤ_idr}
 use Rattle.rc_terms.specs.declared.term.Term.{Term, roll-Term}
 use Rattle.rc_terms.specs.declared.term.Term.TheOpen.{Term-F}
 use Rattle.rc_terms.specs.declared.term.Term.TheFolds.{map-Term, fold-roll-Term, para-roll-Term, ind-Term}
@@ -22,7 +21,7 @@ use Rattle.rc_terms.proofs.SortedTerms.{sort_of_value-value_of}
 use Rattle.normal_forms.specs.declared.summand.Summand.{Summand}
 use Rattle.normal_forms.specs.Polynomials.{constant, opaque, times, multiplied, products, Expansion, unary_expanded, binary_expanded, expanded_step, expanded, product_value, sum_value}
 use Rattle.normal_forms.proofs.Integers.{mul_add, add_mul, mul_assoc, mul_one, one_mul, minus_one, minus_is, products_meet}
-use Rattle.normal_forms.proofs.Values.{value-Unary, value-Binary, value-Integer}
+use Rattle.normal_forms.proofs.Values.{value-Integer}
 
 plus_number : (a b : TermValue) → sort_of_value a ≡ sorts.Int → number_of (plus a b) ≡ number_of a +ℤ number_of b
 plus_number (values.Integer n) b e = refl

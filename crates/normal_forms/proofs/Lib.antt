@@ -7,6 +7,8 @@ pub mod KeyNodes
 pub mod Keys
 pub mod Negations
 pub mod Pushes
+pub mod SortedSums
+pub mod StageLaws
 pub mod Stages
 pub mod SumValues
 pub mod Values

@@ -1,5 +1,5 @@
 -- The stages of each form of node.
-use Rattle.std.proofs.Common.{◌≡◌, ℕ, zero, suc, ◌<◌, Bool, true, List, [], ◌∷◌, ◌++◌, length, map, take, get_or, refl, ap, ◌∙◌, sym, subst, ℤ, Result, Ok, Err, arith}
+use Rattle.std.proofs.Common.{◌≡◌, ℕ, zero, suc, ◌<◌, Bool, true, List, [], ◌∷◌, ◌++◌, length, map, take, get_or, refl, ap, ◌∙◌, sym, subst, ℤ, Result, arith}
 use Rattle.std.specs.Result.{IfOk}
 use Rattle.rc_terms.specs.declared.term.Term.{Term, roll-Term}
 use Rattle.rc_terms.specs.declared.term.Term.TheOpen.{Term-F}

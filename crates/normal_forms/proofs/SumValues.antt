@@ -1,5 +1,5 @@
 -- A sum with like products added up, and the term that writes it, have the value of the summands.
-use Rattle.std.proofs.Common.{◌≡◌, ℕ, Bool, true, false, not, cond, List, [], ◌∷◌, ◌++◌, map, filter, refl, ap, ◌∙◌, sym, subst, ℤ, pos, ◌+ℤ◌, ◌*ℤ◌, Option, Some, None}
+use Rattle.std.proofs.Common.{◌≡◌, ℕ, Bool, true, false, not, cond, List, [], ◌∷◌, map, refl, ap, ◌∙◌, sym, ℤ, pos, ◌+ℤ◌, ◌*ℤ◌}
 use Rattle.std.specs.List.{concat}
 use Rattle.std.specs.Ordering.{int_eq, is_gt, match_ordering, nat_cmp}
 use Rattle.std.specs.Cmp.Lexicographic.{slice_cmp}
@@ -7,11 +7,10 @@ use Rattle.std.specs.FinMap.{slice_cmp-IsAntisymmetric, nat_cmp-IsAntisymmetric}
 use Rattle.std.specs.declared.cmp.Ordering.{Ordering}
 use Rattle.std.specs.declared.cmp.Ordering.TheVariants.{Less, Equal, Greater}
 use Rattle.std.proofs.lemmas.Bool.Decides.{Decides-int_eq}
-use Rattle.std.proofs.Math.IntN.{*ℤ_comm, *ℤ-zero, zero-*ℤ, +ℤ_assoc, +ℤ_comm, +ℤ_idl, +ℤ_idr}
+use Rattle.std.proofs.Math.IntN.{zero-*ℤ, +ℤ_assoc, +ℤ_idl, +ℤ_idr}
 use Rattle.rc_terms.specs.declared.term.Term.{Term}
 use Rattle.rc_terms.specs.declared.term.Term.TheVariants as terms
 use Rattle.rc_terms.specs.declared.operator.BinaryOperator.TheVariants as binary
-use Rattle.rc_terms.specs.declared.value.TermValue.{TermValue}
 use Rattle.rc_terms.specs.declared.value.TermValue.TheVariants as values
 use Rattle.rc_terms.specs.Operators.{number_of, plus}
 use Rattle.rc_terms.specs.Evaluation.{Environment, value_of}
@@ -20,8 +19,8 @@ use Rattle.normal_forms.specs.declared.product.Product.{Product}
 use Rattle.normal_forms.specs.declared.summand.Summand.{Summand}
 use Rattle.normal_forms.specs.Order.{key_of}
 use Rattle.normal_forms.specs.Polynomials.{product_value, sum_value}
-use Rattle.normal_forms.specs.Sums.{keyed, placed, arranged, product_with, product_of, product_order, Polynomial, added, gathered, present, multiplied_by, multiple, plus_all, summed}
-use Rattle.normal_forms.proofs.Integers.{mul_add, add_mul, mul_assoc, mul_one, one_mul, add_swap, mul_swap_front}
+use Rattle.normal_forms.specs.Sums.{keyed, placed, arranged, product_of, product_order, Polynomial, added, gathered, present, multiplied_by, multiple, plus_all, summed}
+use Rattle.normal_forms.proofs.Integers.{add_mul, mul_assoc, mul_one, one_mul, add_swap, mul_swap_front}
 use Rattle.normal_forms.proofs.Values.{value-Integer, value-Binary}
 use Rattle.normal_forms.proofs.Keys.{products_apart}
 
@@ -78,6 +77,59 @@ added_keys : (es : Polynomial) (p : Product) (k : ℤ) → HasKey p → AllHaveK
 added_keys [] p k h all = (h, tt)
 added_keys (e ∷ es) p k h all =
     added_keys_at (product_order p e.0) p k e es (added es p k) h all.0 all.1 (added_keys es p k h all.1)
+
+-- what is so of all factors stays so
+module _ (Q : Term → Type 0) where
+  abbrev pub AllAre : List Term → Type 0
+  AllAre [] = Unit {0}
+  AllAre (t ∷ ts) = Q t × AllAre ts
+
+  abbrev pub EntriesAre : Polynomial → Type 0
+  EntriesAre [] = Unit {0}
+  EntriesAre (e ∷ es) = AllAre e.0.factors × EntriesAre es
+
+  abbrev pub SummandsAre : List Summand → Type 0
+  SummandsAre [] = Unit {0}
+  SummandsAre (s ∷ ss) = AllAre s.product × SummandsAre ss
+
+  placed_whole_at : (behind : Bool) (t : Term) (f : Factor) (fs more : List Factor) → Q t → AllAre (terms_in (f ∷ fs)) → AllAre (terms_in more)
+      → AllAre (terms_in (cond behind (keyed t ∷ f ∷ fs) (f ∷ more)))
+  placed_whole_at true t f fs more h all rest = (h, all)
+  placed_whole_at false t f fs more h all rest = (all.0, rest)
+
+  placed_whole : (t : Term) (fs : List Factor) → Q t → AllAre (terms_in fs) → AllAre (terms_in (placed (keyed t) fs))
+  placed_whole t [] h all = (h, tt)
+  placed_whole t (f ∷ fs) h all =
+      placed_whole_at (is_gt (slice_cmp nat_cmp f.key (key_of t))) t f fs (placed (keyed t) fs) h all (placed_whole t fs h all.1)
+
+  arranged_whole : (fs : List Factor) (ts : List Term) → AllAre (terms_in fs) → AllAre ts → AllAre (terms_in (arranged fs ts))
+  arranged_whole fs [] h all = h
+  arranged_whole fs (t ∷ ts) h all = arranged_whole (placed (keyed t) fs) ts (placed_whole t fs all.0 h) all.1
+
+  added_whole_at : (o : Ordering) (p : Product) (k : ℤ) (e : Product × ℤ) (es more : Polynomial) → AllAre p.factors → AllAre e.0.factors → EntriesAre es
+      → EntriesAre more → EntriesAre (match_ordering o ((p, k) ∷ e ∷ es) ((e.0, e.1 +ℤ k) ∷ es) (e ∷ more))
+  added_whole_at Less p k e es more h g f rest = (h, (g, f))
+  added_whole_at Equal p k e es more h g f rest = (g, f)
+  added_whole_at Greater p k e es more h g f rest = (g, rest)
+
+  added_whole : (es : Polynomial) (p : Product) (k : ℤ) → AllAre p.factors → EntriesAre es → EntriesAre (added es p k)
+  added_whole [] p k h all = (h, tt)
+  added_whole (e ∷ es) p k h all =
+      added_whole_at (product_order p e.0) p k e es (added es p k) h all.0 all.1 (added_whole es p k h all.1)
+
+  pub gathered_whole : (es : Polynomial) (ss : List Summand) → EntriesAre es → SummandsAre ss → EntriesAre (gathered es ss)
+  gathered_whole es [] h all = h
+  gathered_whole es (s ∷ ss) h all =
+      gathered_whole (added es (product_of s.product) s.factor) ss
+      (added_whole es (product_of s.product) s.factor (arranged_whole [] s.product tt all.0) h) all.1
+
+  present_whole_at : (here : Bool) (e : Product × ℤ) (es : Polynomial) → AllAre e.0.factors → EntriesAre es → EntriesAre (cond here (e ∷ es) es)
+  present_whole_at true e es h all = (h, all)
+  present_whole_at false e es h all = all
+
+  pub present_whole : (es : Polynomial) → EntriesAre es → EntriesAre (present es)
+  present_whole [] all = tt
+  present_whole (e ∷ es) all = present_whole_at (not (int_eq e.1 (pos 0))) e (present es) all.0 (present_whole es all.1)
 
 module _ (env : Environment) where
   abbrev number : Term → ℤ
@@ -161,16 +213,13 @@ module _ (env : Environment) where
   IsWhole t = value_of env t ≡ values.Integer (number t)
 
   abbrev pub AllWhole : List Term → Type 0
-  AllWhole [] = Unit {0}
-  AllWhole (t ∷ ts) = IsWhole t × AllWhole ts
+  AllWhole = AllAre IsWhole
 
   abbrev pub EntriesWhole : Polynomial → Type 0
-  EntriesWhole [] = Unit {0}
-  EntriesWhole (e ∷ es) = AllWhole e.0.factors × EntriesWhole es
+  EntriesWhole = EntriesAre IsWhole
 
   abbrev pub SummandsWhole : List Summand → Type 0
-  SummandsWhole [] = Unit {0}
-  SummandsWhole (s ∷ ss) = AllWhole s.product × SummandsWhole ss
+  SummandsWhole = SummandsAre IsWhole
 
   times_term : (t f : Term) → value_of env (terms.Binary binary.Multiply t f) ≡ values.Integer (number t *ℤ number f)
   times_term t f = value-Binary env binary.Multiply t f
@@ -222,48 +271,8 @@ module _ (env : Environment) where
       plus_all_value (multiple e.1 e.0.factors) es (first ∙ ap values.Integer (sym (ap number_of first))) all.1
       ∙ ap (λ v. values.Integer (number_of v +ℤ entries_value es)) first
 
-  -- factors that are numbers stay so
-  placed_whole_at : (behind : Bool) (t : Term) (f : Factor) (fs more : List Factor) → IsWhole t → AllWhole (terms_in (f ∷ fs)) → AllWhole (terms_in more)
-      → AllWhole (terms_in (cond behind (keyed t ∷ f ∷ fs) (f ∷ more)))
-  placed_whole_at true t f fs more h all rest = (h, all)
-  placed_whole_at false t f fs more h all rest = (all.0, rest)
-
-  placed_whole : (t : Term) (fs : List Factor) → IsWhole t → AllWhole (terms_in fs) → AllWhole (terms_in (placed (keyed t) fs))
-  placed_whole t [] h all = (h, tt)
-  placed_whole t (f ∷ fs) h all =
-      placed_whole_at (is_gt (slice_cmp nat_cmp f.key (key_of t))) t f fs (placed (keyed t) fs) h all (placed_whole t fs h all.1)
-
-  arranged_whole : (fs : List Factor) (ts : List Term) → AllWhole (terms_in fs) → AllWhole ts → AllWhole (terms_in (arranged fs ts))
-  arranged_whole fs [] h all = h
-  arranged_whole fs (t ∷ ts) h all = arranged_whole (placed (keyed t) fs) ts (placed_whole t fs all.0 h) all.1
-
-  added_whole_at : (o : Ordering) (p : Product) (k : ℤ) (e : Product × ℤ) (es more : Polynomial) → AllWhole p.factors → AllWhole e.0.factors → EntriesWhole es
-      → EntriesWhole more → EntriesWhole (match_ordering o ((p, k) ∷ e ∷ es) ((e.0, e.1 +ℤ k) ∷ es) (e ∷ more))
-  added_whole_at Less p k e es more h g f rest = (h, (g, f))
-  added_whole_at Equal p k e es more h g f rest = (g, f)
-  added_whole_at Greater p k e es more h g f rest = (g, rest)
-
-  added_whole : (es : Polynomial) (p : Product) (k : ℤ) → AllWhole p.factors → EntriesWhole es → EntriesWhole (added es p k)
-  added_whole [] p k h all = (h, tt)
-  added_whole (e ∷ es) p k h all =
-      added_whole_at (product_order p e.0) p k e es (added es p k) h all.0 all.1 (added_whole es p k h all.1)
-
-  gathered_whole : (es : Polynomial) (ss : List Summand) → EntriesWhole es → SummandsWhole ss → EntriesWhole (gathered es ss)
-  gathered_whole es [] h all = h
-  gathered_whole es (s ∷ ss) h all =
-      gathered_whole (added es (product_of s.product) s.factor) ss
-      (added_whole es (product_of s.product) s.factor (arranged_whole [] s.product tt all.0) h) all.1
-
-  present_whole_at : (here : Bool) (e : Product × ℤ) (es : Polynomial) → AllWhole e.0.factors → EntriesWhole es → EntriesWhole (cond here (e ∷ es) es)
-  present_whole_at true e es h all = (h, all)
-  present_whole_at false e es h all = all
-
-  present_whole : (es : Polynomial) → EntriesWhole es → EntriesWhole (present es)
-  present_whole [] all = tt
-  present_whole (e ∷ es) all = present_whole_at (not (int_eq e.1 (pos 0))) e (present es) all.0 (present_whole es all.1)
-
   pub summed-gathered : (ss : List Summand) → SummandsWhole ss
       → value_of env (summed (present (gathered [] ss))) ≡ values.Integer (sum_value env ss)
   summed-gathered ss all =
-      summed_value (present (gathered [] ss)) (present_whole (gathered [] ss) (gathered_whole [] ss tt all))
+      summed_value (present (gathered [] ss)) (present_whole IsWhole (gathered [] ss) (gathered_whole IsWhole [] ss tt all))
       ∙ ap values.Integer (present_value (gathered [] ss) ∙ gathered_value [] ss tt ∙ +ℤ_idl (sum_value env ss))

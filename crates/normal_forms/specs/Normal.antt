@@ -1,6 +1,6 @@
 -- Terms in normal form: every part of the sort of numbers is one sum of multiples of products (the laws of commutative
 -- rings). What the laws don't look into keeps its form, with its parts in normal form (this project's own).
-use Rattle.std.specs.Prelude.{ℕ, Bool, true, false, List, map, Option, Some, None}
+use Rattle.std.specs.Prelude.{ℕ, Bool, true, false, List, map, Option, Some}
 use Rattle.rc_terms.specs.declared.sort.Sort.{Sort}
 use Rattle.rc_terms.specs.declared.sort.Sort.TheVariants as sorts
 use Rattle.rc_terms.specs.declared.term.Term.{Term}

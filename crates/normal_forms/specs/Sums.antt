@@ -1,6 +1,6 @@
 -- Polynomials with like products added up, and the terms that write them (the laws of commutative rings; the order and the
 -- spelling are this project's own).
-use Rattle.std.specs.Prelude.{ℕ, Bool, not, cond, List, [], ◌∷◌, ◌++◌, map, filter, ℤ, pos, ◌+ℤ◌}
+use Rattle.std.specs.Prelude.{not, cond, List, [], ◌∷◌, map, filter, ℤ, pos, ◌+ℤ◌}
 use Rattle.std.specs.List.{concat}
 use Rattle.std.specs.Ordering.{nat_cmp, int_eq, is_gt, match_ordering}
 use Rattle.std.specs.Cmp.Lexicographic.{slice_cmp}

@@ -11,6 +11,7 @@ ghost use Rattle.normal_forms.specs.Order.{term_order};
 ghost use Rattle.normal_forms.specs.Negation.{pushed};
 ghost use Rattle.normal_forms.specs.Polynomials.{expanded, sum_value};
 ghost use Rattle.normal_forms.specs.Sums.{normal_sum};
+ghost use Rattle.normal_forms.specs.Normal.{normal_term, Names};
 
 /// The order of terms is total and transitive, and holds two terms equal only where they are one.
 pub fn terms_are_in_one_order()
@@ -35,4 +36,14 @@ pub fn expanding_keeps_values()
 pub fn normal_sums_keep_values()
     ensures { (env : Environment) (term : Term) → sort_under (sorts_of env) term ≡ Some sorts.Int →
         value_of env (normal_sum term) ≡ value_of env term }
+{}
+
+/// A term in normal form has the value that it had, in every environment of its names' sorts.
+pub fn normal_terms_keep_values()
+    ensures { (env : Environment) (term : Term) → value_of env (normal_term (sorts_of env) term) ≡ value_of env term }
+{}
+
+/// A term in normal form has the sort that it had, and one that isn't well sorted still isn't.
+pub fn normal_terms_keep_sorts()
+    ensures { (names : Names) (term : Term) → sort_under names (normal_term names term) ≡ sort_under names term }
 {}

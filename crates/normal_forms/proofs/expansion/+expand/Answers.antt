@@ -1,7 +1,7 @@
-use Rattle.std.proofs.Common.{◌≡◌, ℕ, ℤ, List, FitsSigned, negsuc, [], ◌∷◌, ◌++◌, map, not, ap, ◌∙◌, sym, append_assoc, rules}
+use Rattle.std.proofs.Common.{◌≡◌, ℤ, FitsSigned, negsuc, [], ◌∷◌, ◌++◌, map, not, ap, ◌∙◌, sym, append_assoc, rules}
 use Rattle.std.proofs.lemmas.Int.{to_z-of_z}
 use mir.Syntax.{w128}
-use Rattle.normal_forms.specs.Polynomials.{expanded, opaque, constant, products, times}
+use Rattle.normal_forms.specs.Polynomials.{expanded, opaque, products, times}
 use Rattle.normal_forms.specs.Scanning.{signed_sum}
 use Rattle.normal_forms.proofs.Expands.{told, expanded-Variable, expanded-Truth, expanded-Null, expanded-List, expanded-Conditional, expanded-Update, expanded-Integer, expanded-Negative, expanded-Unary, expanded-Add, expanded-Subtract, expanded-Multiply, expanded-Binary, signed-opposite, signed-append, signed-products}
 use Rattle.normal_forms.proofs.expansion.+expand.Goals as goal

@@ -1,4 +1,4 @@
-use Rattle.std.proofs.Common.{◌≡◌, ◌+◌, ◌++◌, [], ◌∷◌, true, map, take, length, ap, ◌∙◌, sym, add-one}
+use Rattle.std.proofs.Common.{◌++◌, [], ◌∷◌, true, map, take, ap, ◌∙◌, sym, add-one}
 use Rattle.std.proofs.lemmas.List.{take_all}
 use Rattle.rc_terms.specs.declared.term.Term.TheVariants as terms
 use Rattle.rc_terms.specs.Sorting.{sort_under}

@@ -1,4 +1,4 @@
-use Rattle.std.proofs.Common.{◌≡◌, ap, ◌∙◌, ◌+ℤ◌, FitsSigned, rules}
+use Rattle.std.proofs.Common.{ap, ◌∙◌, ◌+ℤ◌, FitsSigned, rules}
 use Rattle.std.proofs.lemmas.Int.{to_z-of_z}
 use mir.Syntax.{w128}
 use Rattle.std.specs.BTreeMap.{insert_entry}

@@ -1,4 +1,4 @@
-use Rattle.std.proofs.Common.{◌≡◌, ◌+◌, ◌++◌, [], ◌∷◌, map, take, ap, ◌∙◌, sym, add-one}
+use Rattle.std.proofs.Common.{◌≡◌, ◌++◌, [], ◌∷◌, map, take, ap, ◌∙◌, sym, add-one}
 use Rattle.std.specs.List.{concat}
 use Rattle.normal_forms.proofs.Arrangements.{one_key_more, one_term_more}
 use Rattle.normal_forms.proofs.product.make_product.Goals as goal
