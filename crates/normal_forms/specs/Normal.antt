@@ -49,14 +49,16 @@ staged_step names (Term-F.Integer number) = finished (sort_under names (terms.In
 staged_step names (Term-F.Truth truth) = finished (sort_under names (terms.Truth truth)) (terms.Truth truth)
 staged_step names Term-F.Null = finished (sort_under names terms.Null) terms.Null
 staged_step names (Term-F.List elements) =
-    finished (sort_under names (terms.List (map (λ part. part.0) elements))) (terms.List (map (λ part. part.1 true) elements))
+    finished (sort_under names (terms.List (map (λ part. part.0) elements)))
+    (terms.List (map (λ part. part.1 true) elements))
 staged_step names (Term-F.Unary operator a) =
     finished (sort_under names (terms.Unary operator a.0)) (terms.Unary operator (a.1 (parts_unary operator)))
 staged_step names (Term-F.Binary operator a b) =
     finished (sort_under names (terms.Binary operator a.0 b.0))
     (terms.Binary operator (a.1 (parts_binary operator)) (b.1 (parts_binary operator)))
 staged_step names (Term-F.Conditional test a b) =
-    finished (sort_under names (terms.Conditional test.0 a.0 b.0)) (terms.Conditional (test.1 true) (a.1 true) (b.1 true))
+    finished (sort_under names (terms.Conditional test.0 a.0 b.0))
+    (terms.Conditional (test.1 true) (a.1 true) (b.1 true))
 staged_step names (Term-F.Update list index number) =
     finished (sort_under names (terms.Update list.0 index.0 number.0))
     (terms.Update (list.1 true) (index.1 true) (number.1 true))

@@ -1,5 +1,5 @@
--- The one order of all terms: by the shape of the node, then by its parts (this project's own). A term has a key, a list
--- of numbers that no other term has, and terms are in the order of their keys, as words are in a dictionary.
+-- The one order of all terms: by the shape of the node, then by its parts (this project's own). A term has a key, a
+-- list of numbers that no other term has, and terms are in the order of their keys, as words are in a dictionary.
 use Rattle.std.specs.Prelude.{ℕ, Bool, cond, List, [], ◌∷◌, ◌++◌, length, ℤ, pos, negsuc}
 use Rattle.std.specs.List.{concat}
 use Rattle.std.specs.Ordering.{nat_cmp}

@@ -21,7 +21,8 @@ plus_rest (Some sum) polynomial = plus_all sum (present polynomial)
 
 -- a sum so far, if there is one, and an entry, which isn't written where its factor is 0
 abbrev pub after_entry : Option Term → Product → ℤ → Option Term
-after_entry sum product factor = cond (int_eq factor (pos 0)) sum (Some (plus_maybe sum (multiple factor product.factors)))
+after_entry sum product factor =
+    cond (int_eq factor (pos 0)) sum (Some (plus_maybe sum (multiple factor product.factors)))
 
 -- summands, each with the opposite sign where that is asked for
 abbrev pub signed_sum : Bool → List Summand → List Summand

@@ -1,5 +1,5 @@
--- Polynomials with like products added up, and the terms that write them (the laws of commutative rings; the order and the
--- spelling are this project's own).
+-- Polynomials with like products added up, and the terms that write them (the laws of commutative rings; the order and
+-- the spelling are this project's own).
 use Rattle.std.specs.Prelude.{not, cond, List, [], ◌∷◌, map, filter, ℤ, pos, ◌+ℤ◌}
 use Rattle.std.specs.List.{concat}
 use Rattle.std.specs.Ordering.{nat_cmp, int_eq, is_gt, match_ordering}

@@ -1,6 +1,7 @@
 //! Terms multiplied out.
 ghost use Rattle.std.specs.Prelude.{◌≡◌, ◌++◌, [], ◌∷◌, IfOk, OnOk, map, cond, pos, negsuc, ◌*ℤ◌};
-ghost use Rattle.normal_forms.specs.Polynomials.{expanded, opaque, constant, multiplied as product_of_both, products, times};
+ghost use Rattle.normal_forms.specs.Polynomials.{expanded, opaque, constant, products, times};
+ghost use Rattle.normal_forms.specs.Polynomials.{multiplied as product_of_both};
 ghost use Rattle.normal_forms.specs.Scanning.{signed_sum};
 
 use crate::failure::Failure;

@@ -1,5 +1,5 @@
-//! One form for what is equal by the laws of rings: an order of all terms, and terms and propositions in normal form. The
-//! layers above compare terms, sizes, offsets and locations by it.
+//! One form for what is equal by the laws of rings: an order of all terms, negations pushed inwards, and terms in
+//! normal form. The layers above compare terms, sizes and offsets by it.
 #![tactic(auto)]
 
 mod expansion;
@@ -23,3 +23,6 @@ pub use normal::normal_term;
 pub use order::compare_terms;
 pub use sum::normal_sum;
 pub use summand::Summand;
+
+#[cfg(test)]
+mod tests;

@@ -4,7 +4,8 @@ ghost use Rattle.std.specs.BTreeMap as tree;
 ghost use Rattle.rc_terms.specs.declared.term.Term.TheVariants as terms;
 ghost use Rattle.normal_forms.specs.Sums.{present, product_order};
 ghost use Rattle.normal_forms.specs.Sums.{added as with_added, gathered as with_gathered};
-ghost use Rattle.normal_forms.specs.Sums.{multiplied_by as product_term, multiple as multiple_term, summed as summed_term};
+ghost use Rattle.normal_forms.specs.Sums.{multiplied_by as product_term, multiple as multiple_term};
+ghost use Rattle.normal_forms.specs.Sums.{summed as summed_term};
 ghost use Rattle.normal_forms.specs.Scanning.{plus_maybe, after_entry};
 
 use crate::failure::Failure;

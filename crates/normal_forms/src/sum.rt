@@ -10,9 +10,9 @@ use rc_terms::{Term, TermRefusal, is_within_limit};
 use sqlite_items::Items;
 use std::alloc::Global;
 
-/// The one sum of multiples of products that a number is by the laws of commutative rings: products multiplied out, like
-/// ones added up, in order. Terms that aren't sums, differences, products or minuses stay as they are. `Width` comes where
-/// a factor leaves 128 bits on the way.
+/// The one sum of multiples of products that a number is by the laws of commutative rings: products multiplied out,
+/// like ones added up, in order. Terms that aren't sums, differences, products or minuses stay as they are. `Width`
+/// comes where a factor leaves 128 bits on the way.
 pub fn normal_sum(alloc: Global, term: &Term) -> Result<Term, TermRefusal>
     ensures value { IfOk result (λ sum. sum ≡ sum_in_order term.now) }
     ensures within { OnOk result (nodes (sum_in_order term.now) ≤ most_nodes) }

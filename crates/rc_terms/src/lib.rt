@@ -1,6 +1,6 @@
 //! The language in which annotations speak of numbers, truth values, locations, lists and values of memory: terms, what
-//! they mean, and terms with a name replaced. The layers above write terms, and use `eval` and `subst`. Certificates and
-//! bytes of memory stand here too, as plain data that several crates share.
+//! they mean, and terms with a name replaced. The layers above write terms, and use `eval` and `subst`. Certificates
+//! and bytes of memory stand here too, as plain data that several crates share.
 #![tactic(auto)]
 
 mod bindings;
