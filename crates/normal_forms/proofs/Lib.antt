@@ -6,6 +6,7 @@ pub mod Integers
 pub mod KeyNodes
 pub mod Keys
 pub mod Negations
+pub mod OneForm
 pub mod Pushes
 pub mod SortedSums
 pub mod StageLaws

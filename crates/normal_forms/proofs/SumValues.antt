@@ -52,18 +52,18 @@ arranged_keys fs [] h = h
 arranged_keys fs (t ∷ ts) h = arranged_keys (placed (keyed t) fs) ts (placed_keys t fs h)
 
 -- a product has its factors' keys
-abbrev HasKey : Product → Type 0
+abbrev pub HasKey : Product → Type 0
 HasKey p = p.key ≡ concat (map key_of p.factors)
 
-product_has_key : (ts : List Term) → HasKey (product_of ts)
+pub product_has_key : (ts : List Term) → HasKey (product_of ts)
 product_has_key ts = ap concat (arranged_keys [] ts refl)
 
-same_products : (p q : Product) → HasKey p → HasKey q → product_order p q ≡ Equal → p.factors ≡ q.factors
+pub same_products : (p q : Product) → HasKey p → HasKey q → product_order p q ≡ Equal → p.factors ≡ q.factors
 same_products p q h g e =
     products_apart p.factors q.factors
     (sym h ∙ slice_cmp-IsAntisymmetric nat_cmp-IsAntisymmetric p.key q.key e ∙ g)
 
-abbrev AllHaveKeys : Polynomial → Type 0
+abbrev pub AllHaveKeys : Polynomial → Type 0
 AllHaveKeys [] = Unit {0}
 AllHaveKeys (e ∷ es) = HasKey e.0 × AllHaveKeys es
 
@@ -73,7 +73,7 @@ added_keys_at Less p k e es more h g f rest = (h, (g, f))
 added_keys_at Equal p k e es more h g f rest = (g, f)
 added_keys_at Greater p k e es more h g f rest = (g, rest)
 
-added_keys : (es : Polynomial) (p : Product) (k : ℤ) → HasKey p → AllHaveKeys es → AllHaveKeys (added es p k)
+pub added_keys : (es : Polynomial) (p : Product) (k : ℤ) → HasKey p → AllHaveKeys es → AllHaveKeys (added es p k)
 added_keys [] p k h all = (h, tt)
 added_keys (e ∷ es) p k h all =
     added_keys_at (product_order p e.0) p k e es (added es p k) h all.0 all.1 (added_keys es p k h all.1)

@@ -2,7 +2,7 @@
 -- the spelling are this project's own).
 use Rattle.std.specs.Prelude.{not, cond, List, [], ◌∷◌, map, filter, ℤ, pos, ◌+ℤ◌}
 use Rattle.std.specs.List.{concat}
-use Rattle.std.specs.Ordering.{nat_cmp, int_eq, is_gt, match_ordering}
+use Rattle.std.specs.Ordering.{nat_cmp, int_eq, is_eq, is_gt, match_ordering}
 use Rattle.std.specs.Cmp.Lexicographic.{slice_cmp}
 use Rattle.std.specs.declared.cmp.Ordering.{Ordering}
 use Rattle.rc_terms.specs.declared.term.Term.{Term}
@@ -86,3 +86,9 @@ summed (entry ∷ more) = plus_all (multiple entry.1 entry.0.factors) more
 -- a number in normal form
 abbrev pub normal_sum : Term → Term
 normal_sum term = summed (present (gathered [] (expanded term)))
+
+-- the factor that summands give a product in all
+abbrev pub coefficient : Product → List Summand → ℤ
+coefficient product [] = pos 0
+coefficient product (summand ∷ more) =
+    cond (is_eq (product_order product (product_of summand.product))) summand.factor (pos 0) +ℤ coefficient product more

@@ -10,7 +10,8 @@ ghost use Rattle.rc_terms.specs.Evaluation.{Environment, value_of};
 ghost use Rattle.normal_forms.specs.Order.{term_order};
 ghost use Rattle.normal_forms.specs.Negation.{pushed};
 ghost use Rattle.normal_forms.specs.Polynomials.{expanded, sum_value};
-ghost use Rattle.normal_forms.specs.Sums.{normal_sum};
+ghost use Rattle.normal_forms.specs.Sums.{normal_sum, coefficient};
+ghost use Rattle.normal_forms.specs.declared.product.Product.{Product};
 ghost use Rattle.normal_forms.specs.Normal.{normal_term, Names};
 
 /// The order of terms is total and transitive, and holds two terms equal only where they are one.
@@ -46,4 +47,11 @@ pub fn normal_terms_keep_values()
 /// A term in normal form has the sort that it had, and one that isn't well sorted still isn't.
 pub fn normal_terms_keep_sorts()
     ensures { (names : Names) (term : Term) → sort_under names (normal_term names term) ≡ sort_under names term }
+{}
+
+/// Terms whose summands give each product the same factor, and so are equal polynomials, have one normal form.
+pub fn equal_polynomials_have_one_normal_form()
+    ensures { (term other : Term) →
+        ((product : Product) → coefficient product (expanded term) ≡ coefficient product (expanded other)) →
+        normal_sum term ≡ normal_sum other }
 {}

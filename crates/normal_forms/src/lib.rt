@@ -15,8 +15,9 @@ mod sum;
 mod summand;
 
 pub use laws::{
-    expanding_keeps_values, normal_sums_keep_values, normal_terms_keep_sorts,
-    normal_terms_keep_values, pushing_negations_keeps_truth, terms_are_in_one_order,
+    equal_polynomials_have_one_normal_form, expanding_keeps_values, normal_sums_keep_values,
+    normal_terms_keep_sorts, normal_terms_keep_values, pushing_negations_keeps_truth,
+    terms_are_in_one_order,
 };
 pub use negation::pushed;
 pub use normal::normal_term;
