@@ -1,5 +1,6 @@
 pub mod Arrangements
 pub mod Expansions
+pub mod Decisions
 pub mod Expands
 pub mod Gathering
 pub mod Integers

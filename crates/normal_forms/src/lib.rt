@@ -11,6 +11,7 @@ mod normal;
 mod order;
 mod polynomial;
 mod product;
+mod proposition;
 mod sum;
 mod summand;
 
@@ -22,6 +23,7 @@ pub use laws::{
 pub use negation::pushed;
 pub use normal::normal_term;
 pub use order::compare_terms;
+pub use proposition::normal_prop;
 pub use sum::normal_sum;
 pub use summand::Summand;
 

@@ -58,7 +58,7 @@ pub enum Role {
     Opaque,
 }
 
-fn role_of(operator: BinaryOperator) -> Role
+pub fn role_of(operator: BinaryOperator) -> Role
     ensures { result ≡ operator_role operator }
 {
     match operator {

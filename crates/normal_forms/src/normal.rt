@@ -35,7 +35,7 @@ pub fn normal_term(alloc: Global, term: &Term, sorts: &Sorts) -> Result<Term, Te
 }
 
 /// The term with its parts in normal form, and itself as well where it is `whole` and no part of a sum.
-fn staged(alloc: Global, term: &Term, sorts: &Sorts, whole: bool) -> Result<Term, Failure>
+pub fn staged(alloc: Global, term: &Term, sorts: &Sorts, whole: bool) -> Result<Term, Failure>
     ensures { IfOk result (λ after. after ≡ staged_term sorts.now term.now whole) }
 {
     match term {
