@@ -10,3 +10,7 @@ pub mod Soundness
 pub mod Signs
 pub mod Refuted
 pub mod FailingLemmas
+pub mod FractionLemmas
+pub mod ModelLemmas
+pub mod UnknownLemmas
+pub mod CertificateLemmas

@@ -4,3 +4,7 @@ pub mod Derived
 pub mod Limits
 pub mod Levels
 pub mod Failing
+pub mod Fractions
+pub mod Models
+pub mod Unknowns
+pub mod Solutions

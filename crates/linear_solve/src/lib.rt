@@ -5,18 +5,25 @@
 
 mod derived;
 mod elimination;
+mod fraction;
 mod laws;
 mod level;
 mod limit;
+mod model;
 mod numbers;
 mod row_parts;
+mod solution;
 mod step;
+mod unknowns;
 
 pub use derived::Derived;
 pub use elimination::eliminate;
+pub use fraction::Fraction;
 pub use laws::failing_rows_give_valid_certificates;
 pub use limit::{Limit, SolveRefusal};
+pub use model::{Model, UnknownValue};
 pub use numbers::Numbers;
+pub use solution::{Solved, solve};
 pub use step::{Eliminated, Step};
 
 #[cfg(test)]
