@@ -14,3 +14,5 @@ pub mod FractionLemmas
 pub mod ModelLemmas
 pub mod UnknownLemmas
 pub mod CertificateLemmas
+pub mod Products
+pub mod Points

@@ -62,7 +62,7 @@ combined_multiplier by left times right i =
     +ℤ (times *ℤ left.divisor) *ℤ by_weight i right.multipliers j)
 
 -- a factor of a number that is not negative, or is 0
-not_negative : (m c total : ℤ) → pos 0 <ℤ c → m *ℤ c ≡ total → pos 0 ≤ℤ total → pos 0 ≤ℤ m
+pub not_negative : (m c total : ℤ) → pos 0 <ℤ c → m *ℤ c ≡ total → pos 0 ≤ℤ total → pos 0 ≤ℤ m
 not_negative m c total positive is least =
     by_lt_z m (pos 0)
     (λ below. absurd (let negative = negative_product m c positive below in omega (arith, ints)))
@@ -72,10 +72,10 @@ not_negative m c total positive is least =
     negative_product m c positive below =
         let product = less_times m (pos 0) c positive below in let none = zero-*ℤ c in omega (arith, ints)
 
-zero_factor : (m c : ℤ) → pos 0 <ℤ c → m *ℤ c ≡ pos 0 → m ≡ pos 0
+pub zero_factor : (m c : ℤ) → pos 0 <ℤ c → m *ℤ c ≡ pos 0 → m ≡ pos 0
 zero_factor m c positive is = cancel m (pos 0) c positive (is ∙ sym (zero-*ℤ c))
 
-product_least : (a b : ℤ) → pos 0 <ℤ a → pos 0 ≤ℤ b → pos 0 ≤ℤ (a *ℤ b)
+pub product_least : (a b : ℤ) → pos 0 <ℤ a → pos 0 ≤ℤ b → pos 0 ≤ℤ (a *ℤ b)
 product_least a b positive least =
     by_lt_z (pos 0) b
     (λ above. let product = pos_product a b positive above in omega (arith, ints))
