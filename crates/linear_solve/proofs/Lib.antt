@@ -16,3 +16,6 @@ pub mod UnknownLemmas
 pub mod CertificateLemmas
 pub mod Products
 pub mod Points
+pub mod Completeness
+pub mod Opening
+pub mod Solving

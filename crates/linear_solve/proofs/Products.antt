@@ -134,7 +134,7 @@ opposite f n p q d =
     (ap (λ z. neg_ℤ f *ℤ z) (neg_times p d) ∙ times_neg (neg_ℤ f) (p *ℤ d) ∙ ap neg_ℤ (neg_times f (p *ℤ d))
     ∙ neg_ℤ-neg_ℤ (f *ℤ (p *ℤ d)))
 
-above_neg : (f : ℤ) → f <ℤ pos 0 → pos 0 <ℤ neg_ℤ f
+pub above_neg : (f : ℤ) → f <ℤ pos 0 → pos 0 <ℤ neg_ℤ f
 above_neg (pos n) below = absurd (omega (arith, ints))
 above_neg (negsuc n) below = omega (arith, ints)
 

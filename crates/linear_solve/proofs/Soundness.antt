@@ -28,7 +28,7 @@ pub by_weight : (u : ℕ) (m : FinMap nat_cmp ℤ) → unwrap_or (get m u) (pos 
 by_weight u m = ap (λ o. unwrap_or o (pos 0)) (get-entries m u) ∙ factor_in-only (entries m) (entries_sorted m) u
 
 -- the numbers of a combined row, times the divisor
-combined_number : (column : Column) (by : ℤ) (left : Derived) (times : ℤ) (right : Derived)
+pub combined_number : (column : Column) (by : ℤ) (left : Derived) (times : ℤ) (right : Derived)
     → let constant = by *ℤ left.row.constant +ℤ times *ℤ right.row.constant in
     let sums = entries (sums_of by (entries left.row.factors) times (entries right.row.factors)) in
     number_in column (combined by left times right).row *ℤ shared_divisor constant sums

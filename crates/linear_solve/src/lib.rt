@@ -19,7 +19,10 @@ mod unknowns;
 pub use derived::Derived;
 pub use elimination::eliminate;
 pub use fraction::Fraction;
-pub use laws::failing_rows_give_valid_certificates;
+pub use laws::{
+    certificates_are_valid, failing_rows_give_valid_certificates, models_meet_all_rows,
+    refuted_rows_are_closed,
+};
 pub use limit::{Limit, SolveRefusal};
 pub use model::{Model, UnknownValue};
 pub use numbers::Numbers;

@@ -1,5 +1,6 @@
 ghost use Rattle.std.specs.Prelude.{◌≡◌, false, IsTrue, map, IfOk, IfErr, OnOk, Ok, Err, ◌*ℤ◌, ◌↔◌, nat_le};
-ghost use Rattle.std.specs.Prelude.{◌^◌, unsigned_abs};
+ghost use Rattle.std.specs.Prelude.{◌^◌, unsigned_abs, All};
+ghost use Rattle.linear_solve.specs.Unknowns.{HasNoZero};
 ghost use Rattle.std.specs.List.{list_any};
 ghost use Rattle.linear_certs.specs.Certificate.{IsValid};
 ghost use Rattle.linear_solve.specs.declared.limit.Limit.TheVariants as limits;
@@ -38,6 +39,17 @@ pub enum Solved {
 pub fn solve(alloc: Global, rows: &[Row]) -> Result<Solved, SolveRefusal>
     ensures ok { IfOk result (λ solved. Answers rows.now (Ok solved)) }
     ensures limit { IfErr result (λ refusal. OnLimit refusal (λ limit. Answers rows.now (Err limit))) }
+    ensures certificate { IfOk result (λ solved. OnClosed solved (IsValid rows.now)) }
+    ensures model { IfOk result (λ solved. OnOpen solved (λ model. MeetsAll model rows.now)) }
+    ensures exactly { IfOk result (λ solved. IsClosed solved ↔ AreRefuted rows.now) }
+{
+    answer(alloc, rows)
+}
+
+fn answer(alloc: Global, rows: &[Row]) -> Result<Solved, SolveRefusal>
+    ensures ok { IfOk result (λ solved. Answers rows.now (Ok solved)) }
+    ensures limit { IfErr result (λ refusal. OnLimit refusal (λ limit. Answers rows.now (Err limit))) }
+    ensures no_zero { OnOk result (All HasNoZero rows.now) }
 {
     let unknowns = unknowns_of(alloc, rows)?;
     if unknowns.len() > COLUMN_LIMIT {
