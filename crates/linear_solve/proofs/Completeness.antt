@@ -96,7 +96,7 @@ each_by_equation P (d ∷ ds) e is here others =
 
 -- ---- rows that are taken hold where those that are kept do
 
-and_both : (a b : Bool) → a && b ≡ true → (a ≡ true) × (b ≡ true)
+pub and_both : (a b : Bool) → a && b ≡ true → (a ≡ true) × (b ≡ true)
 and_both true b e = (refl, e)
 and_both false b e = absurd (cc)
 
@@ -104,13 +104,13 @@ pub or_either : (a b : Bool) → a || b ≡ true → (a ≡ true) ⊎ (b ≡ tru
 or_either true b e = inl refl
 or_either false b e = inr e
 
-kinds_same : (k l : RowKind) → same_kind k l ≡ true → k ≡ l
+pub kinds_same : (k l : RowKind) → same_kind k l ≡ true → k ≡ l
 kinds_same Inequality Inequality e = refl
 kinds_same Inequality Equation e = absurd (cc)
 kinds_same Equation Inequality e = absurd (cc)
 kinds_same Equation Equation e = refl
 
-factors_same : (xs ys : List (ℕ × ℤ)) → same_factors xs ys ≡ true → xs ≡ ys
+pub factors_same : (xs ys : List (ℕ × ℤ)) → same_factors xs ys ≡ true → xs ≡ ys
 factors_same [] [] e = refl
 factors_same [] (y ∷ ys) e = absurd (cc)
 factors_same (x ∷ xs) [] e = absurd (cc)

@@ -19,3 +19,4 @@ pub mod Points
 pub mod Completeness
 pub mod Opening
 pub mod Solving
+pub mod KeyLemmas

@@ -8,3 +8,5 @@ pub mod Fractions
 pub mod Models
 pub mod Unknowns
 pub mod Solutions
+pub mod Keys
+pub mod Codes

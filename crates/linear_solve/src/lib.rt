@@ -1,6 +1,7 @@
-//! Rows `0 <= sum` and `0 = sum` over unknowns, and the elimination of the unknowns over the fractions (Fourier 1826,
-//! Motzkin 1936). `specs/Levels.antt` is the definition. The layer above hands rows and the order of their unknowns to
-//! `eliminate`, and gets a row that fails, with the multipliers of the given rows, or the rows of each step.
+//! Rows `0 <= sum` and `0 = sum` over unknowns, solved over the fractions by elimination of the unknowns (Fourier 1826,
+//! Motzkin 1936). The layer above hands rows to `solve`, and gets a certificate that no fractions meet them all, a model
+//! that does, or the limit that was passed. `specs/Solutions.antt` says what the answer is and what it is worth; below it
+//! stand `specs/Levels.antt`, the elimination, and `specs/Models.antt`, the way back.
 #![tactic(auto)]
 
 mod derived;
@@ -8,6 +9,7 @@ mod elimination;
 mod fraction;
 mod laws;
 mod level;
+mod level_rows;
 mod limit;
 mod model;
 mod numbers;
