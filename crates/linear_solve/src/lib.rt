@@ -1,7 +1,7 @@
-//! Rows `0 <= sum` and `0 = sum` over unknowns, solved over the fractions by elimination of the unknowns (Fourier 1826,
-//! Motzkin 1936). The layer above hands rows to `solve`, and gets a certificate that no fractions meet them all, a model
-//! that does, or the limit that was passed. `specs/Solutions.antt` says what the answer is and what it is worth; below it
-//! stand `specs/Levels.antt`, the elimination, and `specs/Models.antt`, the way back.
+//! Rows `0 <= sum` and `0 = sum` over unknowns, solved over the fractions by elimination of the unknowns (Fourier
+//! 1826, Motzkin 1936). The layer above hands rows to `solve`, and gets a certificate that no fractions meet them all,
+//! a model that does, or the limit that was passed. `specs/Solutions.antt` says what the answer is and what it is
+//! worth; below it stand `specs/Levels.antt`, the elimination, and `specs/Models.antt`, the way back.
 #![tactic(auto)]
 
 mod derived;

@@ -150,6 +150,37 @@ fn counts_rows(rt: HostRuntime) -> Result<(), Fail> {
     Ok(())
 }
 
+/// That many rows that set a lower bound, each with one that sets an upper bound.
+fn rows_of_bounds(alloc: Global, count: u32) -> Result<Vec<Row>, Fail> {
+    let mut rows = Vec::new(alloc);
+    for number in 0..count {
+        rows.push(bound(alloc, number, 1)?)?;
+        rows.push(bound(alloc, number, -1)?)?;
+    }
+    Ok(rows)
+}
+
+fn bound(alloc: Global, constant: u32, factor: i128) -> Result<Row, Fail> {
+    let mut factors = Factors::new(alloc);
+    if factor != 0 {
+        factors.insert(0, factor)?;
+    }
+    Ok(Row {
+        kind: RowKind::Inequality,
+        constant: i128::from(constant),
+        factors,
+    })
+}
+
+#[test]
+fn counts_formed_rows(rt: HostRuntime) -> Result<(), Fail> {
+    let most = rows_of_bounds(rt.alloc(), 446)?;
+    assert!(rt; is_open(rt.alloc(), &most, 1));
+    let more = rows_of_bounds(rt.alloc(), 447)?;
+    assert!(rt; passes(rt.alloc(), &more, Limit::Rows));
+    Ok(())
+}
+
 #[test]
 fn gives_an_unknown_without_rows_zero(rt: HostRuntime) -> Result<(), Fail> {
     let rows = rows_of_unknowns(rt.alloc(), 3)?;
