@@ -1,23 +1,20 @@
 -- One unknown more: fractions that meet all rows of the level below meet those of a level, with the unknown's value.
-use Rattle.std.proofs.Common.{◌≡◌, ℕ, ◌+◌, ◌==◌, Bool, true, false, IsTrue, T, not, cond, ◌&&◌, ◌||◌, if◌then◌else◌, ◌⊎◌, inl, inr, ⊎_elim}
-use Rattle.std.proofs.Common.{List, [], ◌∷◌, ◌++◌, map, filter, find, fold, Option, Some, None, Result, Ok, Err, unwrap_or}
+use Rattle.std.proofs.Common.{◌≡◌, ℕ, ◌+◌, ◌==◌, Bool, true, false, T, not, cond, ◌&&◌, ◌||◌, if◌then◌else◌, ◌⊎◌, inl, inr, ⊎_elim}
+use Rattle.std.proofs.Common.{List, [], ◌∷◌, ◌++◌, map, filter, find, fold, Option, Some, None, Result, Ok, unwrap_or}
 use Rattle.std.proofs.Common.{ℤ, pos, negsuc, neg_ℤ, ◌+ℤ◌, ◌*ℤ◌, ◌<ℤ◌, ◌≤ℤ◌, int_lt, int_le, nat_le, refl, sym, ap, ◌∙◌, subst}
-use Rattle.std.proofs.Common.{arith, Decides}
+use Rattle.std.proofs.Common.{arith}
 use Rattle.std.specs.List.{flat_map, list_any}
 use Rattle.std.specs.Ordering.{int_eq}
 use Rattle.std.specs.Cmp.{signed_Decides}
-use Rattle.std.specs.Cmp.Lexicographic.{pointwise}
 use Rattle.std.specs.FinMap.{entries}
 use Rattle.std.proofs.lemmas.Bool.Decides.{Decides-eqb}
 use Rattle.std.proofs.lemmas.Int.{ints, by_lt_z}
 use lib.IntN.{+ℤ_idr, +ℤ_comm, *ℤ_comm, zero-*ℤ, *ℤ-zero}
-use Rattle.linear_certs.specs.declared.row.Row.{Row}
 use Rattle.linear_certs.specs.declared.row.RowKind.{RowKind}
 use Rattle.linear_certs.specs.declared.row.RowKind.TheVariants.{Inequality, Equation}
-use Rattle.linear_certs.specs.Certificate.{constants, factors, number_in, Says}
+use Rattle.linear_certs.specs.Certificate.{Says}
 use Rattle.linear_solve.specs.declared.derived.Derived.{Derived}
 use Rattle.linear_solve.specs.declared.limit.Limit.{Limit}
-use Rattle.linear_solve.specs.declared.limit.Limit.TheVariants as limits
 use Rattle.linear_solve.specs.declared.fraction.Fraction.{Fraction}
 use Rattle.linear_solve.specs.declared.model.UnknownValue.{UnknownValue}
 use Rattle.linear_solve.specs.declared.model.Side.{Side}
@@ -27,7 +24,7 @@ use Rattle.linear_solve.specs.Limits.{is_wide_row, row_limit}
 use Rattle.linear_solve.specs.Levels.{Taken, passed, failing, kept, taken, taken_counted, says_truly, is_equation, same_kind}
 use Rattle.linear_solve.specs.Levels.{same_factors, same_row, without_first_equation, cleared_by, paired, formed, formed_by}
 use Rattle.linear_solve.specs.Levels.{positive_rows, negative_rows, rows_with, rows_without}
-use Rattle.linear_solve.specs.Fractions.{whole, is_below}
+use Rattle.linear_solve.specs.Fractions.{whole}
 use Rattle.linear_solve.specs.Models.{and_then, bound_of, sets_bound, is_better, better_of, best_of, best_bound}
 use Rattle.linear_solve.specs.Models.{else_least, value_by}
 use Rattle.linear_solve.proofs.Sums.{weighted_sum}
@@ -36,7 +33,7 @@ use Rattle.linear_solve.proofs.DivisorLemmas.{shared_positive}
 use Rattle.linear_solve.proofs.Soundness.{pos_product}
 use Rattle.linear_solve.proofs.Signs.{product_least, zero_factor}
 use Rattle.linear_certs.proofs.Integers.{mul_assoc}
-use Rattle.linear_solve.proofs.Refuted.{Each, each_kept, both, found_each, others_each, equation_kind, inequality_kind}
+use Rattle.linear_solve.proofs.Refuted.{Each, each_kept, both, found_each, inequality_kind}
 use Rattle.linear_solve.proofs.Refuted.{none_each, each_filter, not_true, positive_own}
 use Rattle.linear_solve.proofs.Products.{chosen, says_scaled, greater_holds, less_holds, self_cleared, above_own, below_own}
 use Rattle.linear_solve.proofs.Products.{above_other, below_other, above_neg, times_one}

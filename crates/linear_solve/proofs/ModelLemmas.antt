@@ -1,6 +1,6 @@
 -- A model's sums and bounds, one row or factor more.
 use Rattle.std.proofs.Common.{◌≡◌, ℕ, ◌+◌, ◌<◌, ◌≤◌, List, [], ◌∷◌, length, get_or, drop, filter, cond, Bool, true, false}
-use Rattle.std.proofs.Common.{zero, ◌-◌, suc, Option, Some, None, Result, Ok, Err, ℤ, refl, sym, ap, ◌∙◌, arith}
+use Rattle.std.proofs.Common.{zero, ◌-◌, suc, Option, Some, Result, Ok, Err, ℤ, sym, ap, ◌∙◌, arith}
 use Rattle.std.proofs.lemmas.List.{at_drop_more, drop_all}
 use Rattle.linear_solve.specs.declared.derived.Derived.{Derived}
 use Rattle.linear_solve.specs.declared.step.Step.{Step}

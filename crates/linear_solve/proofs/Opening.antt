@@ -1,8 +1,8 @@
 -- The model of an elimination that went on meets all given rows.
-use Rattle.std.proofs.Common.{◌≡◌, ◌≢◌, ℕ, zero, suc, ◌+◌, ◌<◌, ◌*◌, ◌==◌, Bool, true, false, T, not, cond, ◌⊎◌, inl, inr, ⊎_elim}
-use Rattle.std.proofs.Common.{List, [], ◌∷◌, ◌++◌, find, fold, Option, Some, None, Result, Ok, Err, unwrap_or, All}
-use Rattle.std.proofs.Common.{ℤ, pos, negsuc, ◌+ℤ◌, ◌*ℤ◌, ◌<ℤ◌, nat_le, unsigned_abs, refl, sym, ap, ◌∙◌, subst, arith}
-use Rattle.std.proofs.Common.{if◌then◌else◌, map, filter, Decides, int_div}
+use Rattle.std.proofs.Common.{◌≡◌, ◌≢◌, ℕ, ◌+◌, ◌<◌, ◌==◌, Bool, true, false, not, cond, ⊎_elim}
+use Rattle.std.proofs.Common.{List, [], ◌∷◌, ◌++◌, find, fold, Option, Some, None, Result, Ok, Err, unwrap_or}
+use Rattle.std.proofs.Common.{ℤ, pos, ◌+ℤ◌, ◌*ℤ◌, ◌<ℤ◌, nat_le, refl, sym, ap, ◌∙◌, subst, arith}
+use Rattle.std.proofs.Common.{filter, Decides, int_div}
 use Rattle.std.specs.List.{flat_map, list_any}
 use Rattle.std.specs.Option.{option_map_or}
 use Rattle.std.specs.Ordering.{nat_cmp, eq_by_cmp, int_eq, match_ordering}
@@ -10,15 +10,14 @@ use Rattle.std.specs.declared.cmp.Ordering.{Ordering}
 use Rattle.std.specs.declared.cmp.Ordering.TheVariants.{Less, Equal, Greater}
 use Rattle.std.specs.Cmp.{ranked, unsigned_tied, signed_Decides}
 use Rattle.std.specs.BTreeSet.{insert_key}
-use Rattle.std.specs.FinMap.{FinMap, entries, entries_sorted, is_sorted, from_sorted, get-entries}
+use Rattle.std.specs.FinMap.{entries, entries_sorted, get-entries}
 use Rattle.std.specs.FinMap as finite
 use Rattle.std.proofs.lemmas.Bool.{cases_eq}
 use Rattle.std.proofs.lemmas.Bool.Decides.{Decides-eqb}
 use Rattle.std.proofs.lemmas.Int.{ints}
-use Rattle.std.proofs.lemmas.List.Elements.{All-head, All-tail, All-cons, All-nil}
 use lib.IntN.{+ℤ_idl, +ℤ_idr, *ℤ_comm, *ℤ-zero, zero-*ℤ}
 use Rattle.linear_certs.specs.declared.row.Row.{Row}
-use Rattle.linear_certs.specs.Certificate.{factors, number_in, Fractions, numerators_sum, scaled_sum, Says, Holds}
+use Rattle.linear_certs.specs.Certificate.{factors, number_in, Says}
 use Rattle.linear_certs.proofs.Integers.{mul_assoc}
 use Rattle.linear_certs.proofs.SortedFactors.{factor_in, tied_same, same_tied}
 use Rattle.linear_solve.specs.declared.derived.Derived.{Derived}
@@ -28,28 +27,25 @@ use Rattle.linear_solve.specs.declared.step.Eliminated.TheVariants as outcomes
 use Rattle.linear_solve.specs.declared.limit.Limit.{Limit}
 use Rattle.linear_solve.specs.declared.fraction.Fraction.{Fraction}
 use Rattle.linear_solve.specs.declared.model.UnknownValue.{UnknownValue}
-use Rattle.linear_solve.specs.declared.model.Model.{Model}
 use Rattle.linear_solve.specs.Numbers.{quotients}
-use Rattle.linear_solve.specs.Derived.{given, factor_of, has_unknown, own_multiple, other_multiple, sums_of, combined, cleared}
+use Rattle.linear_solve.specs.Derived.{factor_of, has_unknown, own_multiple, other_multiple, sums_of, combined, cleared}
 use Rattle.linear_solve.specs.Limits.{is_wide_row, row_limit}
 use Rattle.linear_solve.specs.Levels.{Taken, passed, failing, kept, taken, taken_counted, says_truly, is_equation, same_row}
 use Rattle.linear_solve.specs.Levels.{without_first_equation, cleared_by, paired, formed, formed_by, positive_rows, negative_rows}
-use Rattle.linear_solve.specs.Levels.{rows_with, rows_without, next_level, numbered, first_level, after_step, elimination}
+use Rattle.linear_solve.specs.Levels.{rows_with, rows_without, next_level, after_step, elimination}
 use Rattle.linear_solve.specs.Fractions.{whole}
-use Rattle.linear_solve.specs.Models.{and_then, value_of, value_by, step_value, values_of}
-use Rattle.linear_solve.specs.Unknowns.{with_factors, unknowns_of, HasNoZero}
-use Rattle.linear_solve.specs.Solutions.{AreValues, MeetsAll}
-use Rattle.linear_solve.proofs.Sums.{weighted_sum}
+use Rattle.linear_solve.specs.Models.{and_then, value_of, step_value, values_of}
+use Rattle.linear_solve.specs.Unknowns.{with_factors, unknowns_of}
 use Rattle.linear_solve.proofs.TakenLemmas.{fold-failing, fold-passed}
 use Rattle.linear_solve.proofs.NumberLemmas.{entries-quotients}
 use Rattle.linear_solve.proofs.Weights.{only}
 use Rattle.linear_solve.proofs.DivisorLemmas.{shared_positive}
-use Rattle.linear_solve.proofs.Soundness.{pos_product, cancel, combined_number}
+use Rattle.linear_solve.proofs.Soundness.{pos_product, combined_number}
 use Rattle.linear_solve.proofs.Signs.{zero_factor}
-use Rattle.linear_solve.proofs.Refuted.{Each, each_filter, found_each, others_each, not_true}
+use Rattle.linear_solve.proofs.Refuted.{Each, each_filter, found_each, others_each}
 use Rattle.linear_solve.proofs.Products.{swap_last, times_one, other_swap, self_cleared}
-use Rattle.linear_solve.proofs.Points.{sum_here, divisor_in, moved, moved_sum, Stands, AllStand, then_inverted}
-use Rattle.linear_solve.proofs.Completeness.{Met, MetAt, fold_met, level_met, taken_if, each_weaker, each_append, or_either}
+use Rattle.linear_solve.proofs.Points.{divisor_in, moved, moved_sum, Stands, AllStand, then_inverted}
+use Rattle.linear_solve.proofs.Completeness.{Met, MetAt, level_met, taken_if, each_weaker}
 
 -- ---- unknowns
 

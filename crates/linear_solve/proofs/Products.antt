@@ -1,5 +1,5 @@
 -- Equations of sums and products, with signs.
-use Rattle.std.proofs.Common.{◌≡◌, zero, suc, Bool, true, false, T, if◌then◌else◌, refl, sym, ap, ◌∙◌, subst, arith}
+use Rattle.std.proofs.Common.{◌≡◌, Bool, true, false, T, if◌then◌else◌, refl, sym, ap, ◌∙◌, subst, arith}
 use Rattle.std.proofs.Common.{ℤ, pos, negsuc, neg_ℤ, ◌+ℤ◌, ◌*ℤ◌, ◌<ℤ◌, ◌≤ℤ◌, int_lt}
 use Rattle.std.proofs.lemmas.Int.{ints, by_lt_z}
 use lib.IntN.{*ℤ_comm, *ℤ-zero, zero-*ℤ, +ℤ_invl, +ℤ_invr, neg_ℤ-neg_ℤ}

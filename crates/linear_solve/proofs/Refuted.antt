@@ -1,10 +1,9 @@
 -- What fails in an elimination is a sum of given rows with the right signs.
-use Rattle.std.proofs.Common.{◌≡◌, ℕ, zero, suc, negsuc, ◌+◌, Bool, true, false, IsTrue, not, ◌⊎◌, inl, inr, List, [], ◌∷◌, ◌++◌}
-use Rattle.std.proofs.Common.{map, filter, find, fold, Option, Some, None, Result, Ok, Err, slice_get, cond, if◌then◌else◌}
-use Rattle.std.proofs.Common.{ℤ, pos, ◌<ℤ◌, int_lt, nat_le, unsigned_abs, refl, sym, ap, ◌∙◌, subst, arith, Decides}
+use Rattle.std.proofs.Common.{◌≡◌, ℕ, zero, suc, negsuc, ◌+◌, Bool, true, false, not, ◌⊎◌, inl, inr, List, [], ◌∷◌, ◌++◌}
+use Rattle.std.proofs.Common.{filter, find, fold, Option, Some, None, Result, Ok, Err, slice_get, cond, if◌then◌else◌}
+use Rattle.std.proofs.Common.{ℤ, pos, ◌<ℤ◌, int_lt, nat_le, refl, sym, ap, ◌∙◌, subst, arith}
 use Rattle.std.specs.List.{flat_map, list_any}
 use Rattle.std.specs.Ordering.{int_eq}
-use Rattle.std.specs.Cmp.{signed_Decides}
 use Rattle.std.specs.FinMap.{entries}
 use Rattle.std.proofs.Common.{T, length, append_assoc}
 use Rattle.std.proofs.lemmas.List.{length_push}
@@ -17,7 +16,7 @@ use Rattle.linear_solve.specs.declared.step.Step.{Step}
 use Rattle.linear_solve.specs.declared.step.Eliminated.{Eliminated}
 use Rattle.linear_solve.specs.declared.step.Eliminated.TheVariants as outcomes
 use Rattle.linear_solve.specs.declared.limit.Limit.{Limit}
-use Rattle.linear_solve.specs.Derived.{given, factor_of, has_unknown, own_multiple, other_multiple, cleared}
+use Rattle.linear_solve.specs.Derived.{factor_of, has_unknown, own_multiple, other_multiple, cleared}
 use Rattle.linear_solve.specs.Limits.{is_wide_row, row_limit}
 use Rattle.linear_solve.specs.Levels.{Taken, passed, failing, kept, taken, taken_counted, says_truly, is_equation, is_equation_kind, same_row}
 use Rattle.linear_solve.specs.Levels.{without_first_equation, cleared_by, paired, formed, formed_by, positive_rows}

@@ -1,6 +1,6 @@
 -- The signs of multipliers: what comes from an inequality makes no equation, and is multiplied by positive numbers.
-use Rattle.std.proofs.Common.{◌≡◌, ◌≢◌, ℕ, Bool, true, false, T, List, [], ◌∷◌, Option, Some, None, slice_get, unwrap_or, cond}
-use Rattle.std.proofs.Common.{ℤ, pos, negsuc, ◌+ℤ◌, ◌*ℤ◌, ◌<ℤ◌, ◌≤ℤ◌, refl, sym, ap, ◌∙◌, subst, arith}
+use Rattle.std.proofs.Common.{◌≡◌, ℕ, Bool, true, false, List, Option, Some, None, slice_get, unwrap_or, cond}
+use Rattle.std.proofs.Common.{ℤ, pos, ◌+ℤ◌, ◌*ℤ◌, ◌<ℤ◌, ◌≤ℤ◌, refl, sym, ap, ◌∙◌, subst, arith}
 use Rattle.std.specs.Ordering.{nat_cmp, eq_by_cmp}
 use Rattle.std.specs.FinMap.{FinMap, empty, insert, get, entries, from_sorted, entries_sorted, get-insert, get-empty}
 use Rattle.std.specs.Cmp.{nat_cmp_total}
@@ -18,7 +18,7 @@ use Rattle.linear_solve.proofs.Sums.{weighted_sum}
 use Rattle.linear_solve.proofs.NumberLemmas.{entries-quotients}
 use Rattle.linear_solve.proofs.Weights.{weighted_sum-sums_of, weighted_sum-quotients, only}
 use Rattle.linear_solve.proofs.DivisorLemmas.{shared_exact, shared_positive}
-use Rattle.linear_solve.proofs.Soundness.{by_weight, pos_product, pos_factor, less_times, cancel}
+use Rattle.linear_solve.proofs.Soundness.{by_weight, pos_product, less_times, cancel}
 
 -- a multiplier of a given row of one kind, in a row of another
 abbrev pub FitsKind : RowKind → RowKind → ℤ → Type 0

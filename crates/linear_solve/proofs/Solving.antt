@@ -1,40 +1,32 @@
 -- What an answer is worth: a certificate is valid, a model meets all rows, and rows are closed where they are refuted.
-use Rattle.std.proofs.Common.{◌≡◌, ◌≢◌, ◌↔◌, ℕ, zero, suc, ◌+◌, ◌<◌, Bool, true, false, List, [], ◌∷◌, length, Option, Some, None}
-use Rattle.std.proofs.Common.{Result, Ok, Err, unwrap_or, All, fold, ℤ, pos, negsuc, ◌+ℤ◌, ◌*ℤ◌, ◌<ℤ◌, unsigned_abs, nat_lt}
+use Rattle.std.proofs.Common.{◌≡◌, ◌≢◌, ◌↔◌, ℕ, ◌+◌, ◌<◌, Bool, true, false, List, [], ◌∷◌, length}
+use Rattle.std.proofs.Common.{Result, Ok, Err, unwrap_or, All, ℤ, pos, negsuc, ◌+ℤ◌, ◌*ℤ◌, ◌<ℤ◌, unsigned_abs, nat_lt}
 use Rattle.std.proofs.Common.{refl, sym, ap, ◌∙◌, subst, arith}
 use Rattle.std.specs.Result.{IfOk, OnOk}
 use Rattle.std.specs.FinMap.{entries, get-entries}
 use Rattle.std.proofs.lemmas.Int.{ints}
 use Rattle.std.proofs.lemmas.List.Elements.{All-head, All-tail, All-cons, All-nil}
-use Rattle.rc_terms.specs.declared.cert.Cert.{Cert}
 use Rattle.linear_certs.specs.declared.row.Row.{Row}
-use Rattle.linear_certs.specs.Certificate.{factors, number_in, IsValid, Fractions, numerators_sum, Says, Holds}
+use Rattle.linear_certs.specs.Certificate.{IsValid, Fractions, numerators_sum, Says, Holds}
 use Rattle.linear_certs.proofs.Refutation.{refutes}
-use Rattle.linear_certs.proofs.SortedFactors.{factor_in}
-use Rattle.linear_solve.specs.declared.derived.Derived.{Derived}
 use Rattle.linear_solve.specs.declared.step.Step.{Step}
 use Rattle.linear_solve.specs.declared.step.Eliminated.{Eliminated}
 use Rattle.linear_solve.specs.declared.step.Eliminated.TheVariants as outcomes
 use Rattle.linear_solve.specs.declared.limit.Limit.{Limit}
-use Rattle.linear_solve.specs.declared.limit.SolveRefusal.{SolveRefusal}
 use Rattle.linear_solve.specs.declared.model.UnknownValue.{UnknownValue}
-use Rattle.linear_solve.specs.declared.model.Model.{Model}
 use Rattle.linear_solve.specs.declared.solution.Solved.{Solved}
 use Rattle.linear_solve.specs.declared.solution.Solved.TheVariants.{Closed, Open}
-use Rattle.linear_solve.specs.Derived.{given}
 use Rattle.linear_solve.specs.Limits.{column_limit}
-use Rattle.linear_solve.specs.Levels.{taken, kept, numbered, first_level, elimination}
-use Rattle.linear_solve.specs.Failing.{certificate_of}
+use Rattle.linear_solve.specs.Levels.{numbered, first_level, elimination}
 use Rattle.linear_solve.specs.Models.{value_of, values_of}
 use Rattle.linear_solve.specs.Unknowns.{unknowns_of, HasNoZero}
-use Rattle.linear_solve.specs.Solutions.{LeadsTo, AnswersWithin, Answers, opened, AreValues, MeetsAll, AreRefuted}
+use Rattle.linear_solve.specs.Solutions.{LeadsTo, AnswersWithin, Answers, opened, MeetsAll, AreRefuted}
 use Rattle.linear_solve.specs.Solutions.{OnClosed, OnOpen, IsClosed}
 use Rattle.linear_solve.proofs.Sums.{weighted_sum}
 use Rattle.linear_solve.proofs.Refuted.{Each, refuted_good}
 use Rattle.linear_solve.proofs.FailingLemmas.{certificate_valid}
-use Rattle.linear_solve.proofs.Points.{Stands, AllStand}
 use Rattle.linear_solve.proofs.Completeness.{Met, fold_met}
-use Rattle.linear_solve.proofs.Opening.{Outside, IsAbsent, AreNonzero, EachRow, HasOnly, HasSome, IsMet, outside_rows}
+use Rattle.linear_solve.proofs.Opening.{Outside, IsAbsent, AreNonzero, EachRow, HasOnly, outside_rows}
 use Rattle.linear_solve.proofs.Opening.{absent_zero, unknowns_apart, fold_some, goes_on, open_met}
 
 nonzero_all : (es : List (ℕ × ℤ)) → All (λ factor. factor.1 ≢ pos 0) es → AreNonzero es

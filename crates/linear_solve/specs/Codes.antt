@@ -1,5 +1,5 @@
 -- By what a proof tells derived rows apart: their parts. No contract cites it.
-use Rattle.std.specs.Prelude.{ℕ, ◌≡◌, ℤ, Bool, true, false, refl}
+use Rattle.std.specs.Prelude.{◌≡◌, ℤ, Bool, true, false, refl}
 use Rattle.std.specs.Coded.{Coded, code_by, coded×, coded_ℕ, coded_ℤ, coded_bool}
 use Rattle.std.specs.Ordering.{nat_cmp}
 use Rattle.std.specs.FinMap.{FinMap}

@@ -1,6 +1,6 @@
 -- What rows come to: closed with a certificate, open with a model, or a limit. And what each answer is worth.
 use Rattle.std.specs.Prelude.{ℕ, ◌≡◌, ◌^◌, List, length, Bool, true, false, IsTrue, Result, Ok, Err, All, ◌⊎◌, ⊤}
-use Rattle.std.specs.Prelude.{ℤ, pos, ◌*ℤ◌, ◌<ℤ◌, unsigned_abs, nat_lt, nat_le}
+use Rattle.std.specs.Prelude.{pos, ◌*ℤ◌, ◌<ℤ◌, unsigned_abs, nat_lt, nat_le}
 use Rattle.std.specs.List.{list_any}
 use Rattle.rc_terms.specs.declared.cert.Cert.{Cert}
 use Rattle.linear_certs.specs.declared.row.Row.{Row}

@@ -1,9 +1,6 @@
-use Rattle.std.proofs.Common.{◌≡◌, drop, sym, ap, ◌∙◌}
-use Rattle.std.proofs.lemmas.List.{drop_all}
 use Rattle.std.proofs.lemmas.Result.{err_from_is_err_and}
-use Rattle.linear_solve.specs.Levels.{kept, elimination}
 use Rattle.linear_solve.proofs.TakenLemmas.{OnLimit-weaker}
-use Rattle.linear_solve.proofs.StepLemmas.{after_steps, limit_turn, refuted_turn, step_turn, last_turn}
+use Rattle.linear_solve.proofs.StepLemmas.{limit_turn, refuted_turn, step_turn, last_turn}
 use Rattle.linear_solve.proofs.elimination.eliminate.Goals as goal
 
 pub returns-in_err-failing-2-clause-limit : goal.returns-in_err-failing-2-clause-limit

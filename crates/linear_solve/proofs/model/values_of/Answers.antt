@@ -1,6 +1,4 @@
-use Rattle.std.proofs.Common.{Ok, ◌≡◌, ap, ◌∙◌, sym}
 use Rattle.std.proofs.lemmas.Result.{err_from_is_err_and}
-use Rattle.linear_solve.specs.Models.{step_value}
 use Rattle.linear_solve.proofs.TakenLemmas.{OnLimit-weaker}
 use Rattle.linear_solve.proofs.ModelLemmas.{step_limit}
 use Rattle.linear_solve.proofs.model.values_of.Goals as goal

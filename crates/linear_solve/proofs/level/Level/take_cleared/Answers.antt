@@ -1,8 +1,8 @@
-use Rattle.std.proofs.Common.{◌≡◌, drop, fold, sym, ap, ◌∙◌}
+use Rattle.std.proofs.Common.{sym, ap, ◌∙◌}
 use Rattle.std.proofs.lemmas.Result.{err_from_is_err_and}
 use Rattle.linear_solve.specs.declared.derived.Derived.{Derived}
 use Rattle.linear_solve.specs.Derived.{cleared}
-use Rattle.linear_solve.specs.Levels.{taken, taken_next, kept, passed}
+use Rattle.linear_solve.specs.Levels.{kept, passed}
 use Rattle.linear_solve.proofs.TakenLemmas.{formed_failing, formed_passed, OnLimit-weaker, wide_passes}
 use Rattle.linear_solve.proofs.level.Level.take_cleared.Goals as goal
 

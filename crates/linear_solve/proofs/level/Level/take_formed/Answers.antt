@@ -1,7 +1,7 @@
-use Rattle.std.proofs.Common.{◌≡◌, ◌+◌, ◌-◌, length, fold, take, drop, sym, ap, ◌∙◌}
+use Rattle.std.proofs.Common.{◌+◌, ◌-◌, length, fold, take, drop, sym, ap, ◌∙◌}
 use Rattle.std.proofs.lemmas.Result.{err_from_is_err_and, IfOk-weaker, IfErr-weaker}
 use Rattle.linear_solve.proofs.TakenLemmas.{MatchOption-weaker}
-use Rattle.linear_solve.specs.Levels.{taken, kept, passed, failing, formed, cleared_by}
+use Rattle.linear_solve.specs.Levels.{taken, kept, cleared_by}
 use Rattle.linear_solve.proofs.TakenLemmas.{with_equation, without_equation, fold-failing, fold-passed, OnLimit-weaker}
 use Rattle.linear_solve.proofs.level.Level.take_formed.Goals as goal
 

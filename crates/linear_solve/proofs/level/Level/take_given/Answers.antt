@@ -1,11 +1,8 @@
-use Rattle.std.proofs.Common.{◌≡◌, ℕ, ◌+◌, List, drop, fold, refl, sym, ap, ◌∙◌}
-use Rattle.std.proofs.lemmas.List.{at_drop_more}
+use Rattle.std.proofs.Common.{◌+◌, drop, sym, ap, ◌∙◌}
 use Rattle.std.proofs.lemmas.Result.{err_from_is_err_and}
-use Rattle.linear_certs.specs.declared.row.Row.{Row}
-use Rattle.linear_solve.specs.declared.derived.Derived.{Derived}
 use Rattle.linear_solve.specs.declared.limit.Limit.TheVariants as limits
 use Rattle.linear_solve.specs.Derived.{given}
-use Rattle.linear_solve.specs.Levels.{taken, taken_next, kept, passed, failing, numbered, first_level}
+use Rattle.linear_solve.specs.Levels.{taken, kept, numbered}
 use Rattle.linear_solve.proofs.TakenLemmas.{run_failing, run_passed, given_turn, OnLimit-weaker, wide_passes}
 use Rattle.linear_solve.proofs.level.Level.take_given.Goals as goal
 

@@ -1,8 +1,8 @@
-use Rattle.std.proofs.Common.{◌≡◌, ◌+◌, map, filter, subst, drop, fold, pos, int_lt, refl, sym, ap, ◌∙◌}
+use Rattle.std.proofs.Common.{◌≡◌, ◌+◌, map, filter, subst, drop, fold, pos, int_lt, sym, ap, ◌∙◌}
 use Rattle.std.proofs.lemmas.Result.{err_from_is_err_and}
 use Rattle.linear_solve.specs.declared.derived.Derived.{Derived}
 use Rattle.linear_solve.specs.Derived.{cleared, factor_of}
-use Rattle.linear_solve.specs.Levels.{taken, taken_next, kept, passed}
+use Rattle.linear_solve.specs.Levels.{taken, kept, passed}
 use Rattle.linear_solve.proofs.TakenLemmas.{tested_failing, tested_passed, tested_step, tested_skip}
 use Rattle.linear_solve.proofs.TakenLemmas.{OnLimit-weaker, wide_passes}
 use Rattle.linear_solve.specs.declared.level.Level.{Level}

@@ -1,9 +1,9 @@
-use Rattle.std.proofs.Common.{◌≡◌, drop, fold, pos, int_lt, refl, sym, ap, ◌∙◌}
+use Rattle.std.proofs.Common.{fold, pos, int_lt, sym, ap, ◌∙◌}
 use Rattle.std.proofs.lemmas.Result.{err_from_is_err_and}
 use Rattle.linear_solve.specs.declared.derived.Derived.{Derived}
-use Rattle.linear_solve.specs.Derived.{cleared, factor_of}
-use Rattle.linear_solve.specs.Levels.{taken, taken_next, kept, passed, paired, negative_rows}
-use Rattle.linear_solve.proofs.TakenLemmas.{grouped_failing, grouped_passed, grouped_step, grouped_skip, OnLimit-weaker}
+use Rattle.linear_solve.specs.Derived.{factor_of}
+use Rattle.linear_solve.specs.Levels.{taken, kept, paired, negative_rows}
+use Rattle.linear_solve.proofs.TakenLemmas.{grouped_failing, grouped_passed, OnLimit-weaker}
 use Rattle.linear_solve.proofs.level.Level.take_pairs.Goals as goal
 
 pub returns-in_err-failing-clause-limit : goal.returns-in_err-failing-clause-limit

@@ -1,4 +1,4 @@
-use Rattle.std.proofs.Common.{sym, ◌∙◌}
+use Rattle.std.proofs.Common.{◌∙◌}
 use Rattle.linear_solve.proofs.KeyLemmas.{has_is}
 use Rattle.linear_solve.proofs.level_rows.LevelRows.has.Goals as goal
 
