@@ -1,6 +1,7 @@
 #!/usr/bin/env python3
-"""Eliminates the unknowns of the cases of crates/linear_solve/src/tests/tables.rt by plain fractions, with no code of
-the crate, and prints each case that the table answers otherwise. With --write it writes the table anew."""
+"""Eliminates the unknowns of the cases of crates/linear_solve/src/tests/tables.rt by plain fractions, and solves those of
+solutions.rt beside it, with no code of the crate; prints each case that a table answers otherwise. With --write it
+writes the tables anew."""
 import random
 import re
 import sys
@@ -9,10 +10,14 @@ from fractions import Fraction
 from math import gcd, lcm
 from pathlib import Path
 
-TABLES = Path(__file__).parent.parent / "crates/linear_solve/src/tests/tables.rt"
+TESTS = Path(__file__).parent.parent / "crates/linear_solve/src/tests"
+TABLES = TESTS / "tables.rt"
+SOLUTIONS = TESTS / "solutions.rt"
 CASE = re.compile(r'\(\s*"([^"]*)",\s*"([^"]*)",\s*"([^"]*)",?\s*\)', re.S)
+ROWS_AND_ANSWER = re.compile(r'\(\s*"([^"]*)",\s*"([^"]*)",?\s*\)', re.S)
 WIDTH = 2**120
 ROWS = 200000
+COLUMNS = 128
 
 
 class Passed(Exception):
@@ -182,10 +187,10 @@ BY_HAND = [
 ]
 
 
-def by_chance(count):
-    chance = random.Random(19)
+def by_chance(count, seed=19, most=4):
+    chance = random.Random(seed)
     for _ in range(count):
-        unknowns = chance.randint(1, 4)
+        unknowns = chance.randint(1, most)
         rows = []
         for _ in range(chance.randint(2, 6)):
             kind = "=" if chance.random() < 0.2 else "<="
@@ -201,9 +206,162 @@ def by_chance(count):
         yield "; ".join(rows), " ".join(map(str, order))
 
 
+class Model:
+    """Values by unknown, found going back over the steps; the fractions that are formed have a limit."""
+
+    def __init__(self):
+        self.values = {}
+
+    @staticmethod
+    def formed(numerator, denominator):
+        if abs(numerator) > WIDTH or abs(denominator) > WIDTH:
+            raise Passed("Width")
+        return numerator, denominator
+
+    def sum_at(self, row):
+        """The constant and then the products, over the least common denominator of what is added so far."""
+        numerator, denominator = row[None], 1
+        for unknown in unknowns_of(row):
+            product = row[unknown] * self.values.get(unknown, Fraction(0))
+            self.formed(product.numerator, product.denominator)
+            common = lcm(denominator, product.denominator)
+            numerator = numerator * (common // denominator) + product.numerator * (common // product.denominator)
+            denominator = common
+            self.formed(numerator, denominator)
+        return Fraction(numerator, denominator)
+
+    def bound(self, unknown, row):
+        bound = -self.sum_at(row) / row[unknown]
+        self.formed(bound.numerator, bound.denominator)
+        return bound
+
+    def value(self, unknown, rows):
+        for equation, row, _ in rows:
+            if equation:
+                return self.bound(unknown, row)
+        lower = [self.bound(unknown, row) for _, row, _ in rows if row[unknown] > 0]
+        if lower:
+            return max(lower)
+        upper = [self.bound(unknown, row) for _, row, _ in rows if row[unknown] < 0]
+        return min(upper) if upper else Fraction(0)
+
+    def go_back(self, steps):
+        for unknown, rows in reversed(steps):
+            self.values[unknown] = self.value(unknown, rows)
+
+
+def certificate(given, failing):
+    """The multipliers in lowest terms, for a constant below 0, whose partial sums have a limit."""
+    _, row, shares = failing
+    divisor = lcm(*(value.denominator for value in shares.values()))
+    whole = {number: int(value * divisor) for number, value in shares.items()}
+    shared = gcd(*whole.values()) * (-1 if row[None] > 0 else 1)
+    multipliers = {number: value // shared for number, value in sorted(whole.items())}
+    total = {}
+    for number, multiplier in multipliers.items():
+        for column, factor in given[number][1].items():
+            total[column] = total.get(column, 0) + multiplier * factor
+        if any(abs(value) > WIDTH for value in total.values()):
+            raise Passed("Width")
+    if any(value != 0 for column, value in total.items() if column is not None) or total[None] >= 0:
+        sys.exit(f"the sum of a certificate isn't impossible: {given}")
+    return multipliers
+
+
+def holds(given, values):
+    for equation, row in given:
+        total = row[None] + sum(row[unknown] * values[unknown] for unknown in unknowns_of(row))
+        if total < 0 or (equation and total != 0):
+            return False
+    return True
+
+
+def solution(rows_text):
+    rows = [read_row(part) for part in rows_text.split(";") if part.strip()]
+    unknowns = sorted({unknown for _, row in rows for unknown in unknowns_of(row)})
+    try:
+        if len(unknowns) > COLUMNS:
+            raise Passed("Columns")
+        model = Model()
+        model.go_back(Elimination().run(rows, unknowns))
+    except Passed as limit:
+        return str(limit)
+    except Fails as failing:
+        try:
+            parts = certificate(rows, failing.args[0])
+        except Passed as limit:
+            return str(limit)
+        return "closed " + " ".join(f"{number}:{value}" for number, value in parts.items())
+    if not holds(rows, model.values):
+        sys.exit(f"the model doesn't meet all rows: {rows_text}")
+    return "open" + "".join(f" {unknown}={value}" for unknown, value in sorted(model.values.items()))
+
+
 def string(text):
     """A literal, broken at blanks: the test reads words."""
     return '"' + "\n            ".join(textwrap.wrap(text, 100, break_long_words=False)) + '"'
+
+
+SOLVED_BY_HAND = [
+    f"<= {2**31} 0:1; <= {2**31 - 1} 0:-1; <= {-(2**31)} 0:1",
+    f"<= {2**31} 0:1; <= {2**31 - 1} 0:-1; <= {2**31 - 2} 0:-1; <= {-(2**31) + 1} 0:1",
+    "<= -1 0:2; <= 1 0:-2",
+    "= -1 0:2",
+    "<= 5 3:-2 7:1; <= 0 7:-3",
+    "<= 0 0:1 1:-1; <= -1 1:1",
+    "<= 2 0:-3; <= 5 0:-4",
+    "<= 2 0:3; <= 5 0:4",
+    "<= 2 0:3; <= 5 0:-4; <= 1 0:7",
+    "= 0 0:1 1:1 2:1; = -6 0:1 1:2 2:3; <= -1 0:1",
+    "= 0 0:1 1:1 2:1; = -6 0:1 1:2 2:3; <= 1 0:-1 1:-1",
+    "= -1 0:3 1:5; <= 0 0:1; <= 0 1:1",
+    "<= -1 0:2 1:3; <= -1 0:3 1:2; <= 1 0:-6 1:-6",
+    "<= -2 0:2 1:3; <= -2 0:3 1:2; <= 4 0:-6 1:-6",
+    "= 3; <= -1 0:1",
+    "= -3; <= -1 0:1",
+    "<= -1 0:1; = 3",
+    f"<= {-WIDTH} 0:1",
+    f"<= {WIDTH} 0:-1",
+    f"<= {WIDTH} 0:-1 1:-1; <= -1 1:1",
+    f"<= {WIDTH - 1} 0:-1 1:-1; <= -1 1:1",
+    f"<= {-WIDTH + 1} 0:1 1:-1; <= -1 1:1",
+    f"<= {-WIDTH} 0:1 1:-1; <= -1 1:1",
+    f"<= -1 0:{WIDTH}",
+    f"<= -1 0:{WIDTH}; <= -1 0:{WIDTH - 1}",
+    f"<= 0 0:1 1:{-WIDTH // 4}; <= -5 1:1",
+    f"<= 0 0:1 1:{-WIDTH // 4}; <= -4 1:1",
+    f"<= 0 0:1 1:-1 2:-1; <= -1 1:{3**40}; <= -1 2:{5**30}",
+    f"<= 0 0:1 1:-1 2:-1; <= -1 1:{3**35}; <= -1 2:{5**20}",
+    f"= -1 0:{2**60}; = 0 0:1 1:{-(2**60)}",
+    f"= -1 1:{2**60}; = 0 1:1 0:{-(2**60)}",
+    f"= -1 1:{2**61}; = 0 1:1 0:{-(2**60)}",
+    f"<= -1 0:{2**60 + 1}; <= 0 0:{-(2**60) + 1}",
+    f"<= {-(2**60)} 0:{2**60 + 1}; <= 1 0:{-(2**61) + 1}",
+    f"<= -1 0:{2**119}; <= -1 0:{-(2**119) + 1}",
+    f"<= -1 0:{2**118 + 1}; <= 1 0:{-(2**119) + 1}",
+    f"<= -1 0:{2**90}; <= 0 0:{-(2**90) + 1} 1:1; <= 0 1:{-(2**90) + 3}",
+    f"<= -1 0:{3**50}; <= 0 0:{-(2**60)} 1:1; <= 0 1:{-(5**30)} 2:1; <= 0 2:-7",
+    f"<= 0 0:{WIDTH + 1}; <= -1",
+    f"<= -1; <= 0 0:{WIDTH + 1}",
+]
+
+
+def write_solutions():
+    by_hand = [rows for rows, _ in BY_HAND] + SOLVED_BY_HAND
+    chance = [rows for rows, _ in by_chance(90, seed=20, most=5)]
+    lines = [
+        "/// Rows, and what they come to: closed with the multipliers of the given rows, open with the unknowns' values, or",
+        "/// a limit. tools/elimination.py wrote the answers.",
+        "pub type Solution = (&'static str, &'static str);",
+    ]
+    tables = [(f"HAND_{at // 20 + 1}", by_hand[at : at + 20]) for at in range(0, len(by_hand), 20)]
+    tables += [(f"CHANCE_{at // 18 + 1}", chance[at : at + 18]) for at in range(0, len(chance), 18)]
+    for name, cases in tables:
+        lines += ["", f"pub const {name}: [Solution; {len(cases)}] = ["]
+        for rows in cases:
+            lines += ["    (", *(f"        {string(text)}," for text in (rows, solution(rows))), "    ),"]
+        lines.append("];")
+    SOLUTIONS.write_text("\n".join(lines) + "\n")
 
 
 def write():
@@ -225,18 +383,21 @@ def write():
 
 
 def check():
-    cases = CASE.findall(TABLES.read_text())
     wrong = 0
-    for rows, unknowns, given in cases:
-        rows, unknowns, given = (re.sub(r"\s+", " ", text) for text in (rows, unknowns, given))
-        if answer(rows, unknowns) != given:
+    eliminations = CASE.findall(TABLES.read_text())
+    solutions = ROWS_AND_ANSWER.findall(SOLUTIONS.read_text())
+    for *given, expected in eliminations + solutions:
+        *given, expected = (re.sub(r"\s+", " ", text) for text in (*given, expected))
+        found = answer(*given) if len(given) == 2 else solution(*given)
+        if found != expected:
             wrong += 1
-            print(f"{rows} | {unknowns}: {answer(rows, unknowns)}, and not {given}")
-    print(f"{len(cases)} eliminations, {wrong} otherwise")
-    return wrong or not cases
+            print(f"{' | '.join(given)}: {found}, and not {expected}")
+    print(f"{len(eliminations)} eliminations and {len(solutions)} solutions, {wrong} otherwise")
+    return wrong or not eliminations or not solutions
 
 
 if __name__ == "__main__":
     if "--write" in sys.argv:
         write()
+        write_solutions()
     sys.exit(1 if check() else 0)

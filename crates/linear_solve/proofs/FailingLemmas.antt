@@ -1,28 +1,28 @@
 -- The certificate of a failing row is valid.
 use Rattle.std.proofs.Common.{◌≡◌, ◌≢◌, ℕ, zero, suc, ◌+◌, ◌<◌, Bool, true, false, T, not, cond, List, [], ◌∷◌, map, length}
 use Rattle.std.proofs.Common.{get_or, Option, Some, None, slice_get, unwrap_or, All, IsSomeAnd, ℤ, pos, negsuc, ◌+ℤ◌, ◌*ℤ◌}
-use Rattle.std.proofs.Common.{◌<ℤ◌, ◌≤ℤ◌, int_div, int_le, int_lt, refl, sym, ap, ◌∙◌, subst, add-one, arith, Decides}
+use Rattle.std.proofs.Common.{◌<ℤ◌, ◌≤ℤ◌, int_div, int_lt, refl, sym, ap, ◌∙◌, subst, add-one, arith, Decides}
 use Rattle.std.proofs.Common.{◌⊎◌, ⊎_elim, inl, inr, if◌then◌else◌}
 use Rattle.std.specs.Option.{option_map_or}
 use Rattle.std.specs.Ordering.{nat_cmp, int_eq}
 use Rattle.std.specs.Cmp.{signed_Decides}
 use Rattle.std.specs.List.Sorted.{IsStrictlyIncreasing}
-use Rattle.std.specs.FinMap.{FinMap, entries, from_sorted, is_sorted, entries_sorted, get-entries}
+use Rattle.std.specs.FinMap.{entries, from_sorted, is_sorted, entries_sorted, get-entries}
 use Rattle.std.proofs.lemmas.Int.{ints, by_lt_z}
-use Rattle.std.proofs.lemmas.List.{get_or-map, length-map}
+use Rattle.std.proofs.lemmas.List.{length-map}
 use Rattle.std.proofs.lemmas.List.Elements.{All-nil, All-cons, All-map}
 use lib.IntN.{zero-*ℤ, *ℤ-zero, *ℤ_comm}
 use Rattle.rc_terms.specs.declared.cert.CertEntry.{CertEntry}
 use Rattle.linear_certs.specs.declared.row.Row.{Row}
 use Rattle.linear_certs.specs.declared.row.RowKind.{RowKind}
 use Rattle.linear_certs.specs.declared.row.RowKind.TheVariants.{Inequality, Equation}
-use Rattle.linear_certs.specs.Certificate.{Column, constants, factors, number_in, multiple_in, sum_in, MayMultiply}
+use Rattle.linear_certs.specs.Certificate.{Column, constants, factors, number_in, sum_in, MayMultiply}
 use Rattle.linear_certs.specs.Certificate.{MultipliesRow, IsValid}
 use Rattle.linear_certs.proofs.Integers.{mul_add, mul_assoc, mul_swap}
 use Rattle.linear_certs.proofs.SortedFactors.{factor_in, first_below, sorted_tail}
 use Rattle.linear_certs.proofs.FactorPrefixes.{factor_at}
 use Rattle.linear_solve.specs.declared.derived.Derived.{Derived}
-use Rattle.linear_solve.specs.Numbers.{shared_divisor, quotients, number_at}
+use Rattle.linear_solve.specs.Numbers.{shared_divisor, quotients}
 use Rattle.linear_solve.specs.Levels.{says_truly}
 use Rattle.linear_solve.proofs.Sums.{weighted_sum, row_number}
 use Rattle.linear_solve.specs.Failing.{direction, lowest_multipliers, certificate_of}

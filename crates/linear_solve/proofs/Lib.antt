@@ -10,3 +10,13 @@ pub mod Soundness
 pub mod Signs
 pub mod Refuted
 pub mod FailingLemmas
+pub mod FractionLemmas
+pub mod ModelLemmas
+pub mod UnknownLemmas
+pub mod CertificateLemmas
+pub mod Products
+pub mod Points
+pub mod Completeness
+pub mod Opening
+pub mod Solving
+pub mod KeyLemmas

@@ -1,12 +1,12 @@
 -- Maps of numbers that are made entry by entry, in ascending order.
 use Rattle.std.proofs.Common.{◌≡◌, ◌≢◌, ℕ, zero, suc, ◌+◌, ◌<◌, ◌≤◌, Bool, true, false, T, not, List, [], ◌∷◌, ◌++◌}
-use Rattle.std.proofs.Common.{length, get_or, take, filter, map, ℤ, pos, int_div, if◌then◌else◌, cond}
+use Rattle.std.proofs.Common.{length, get_or, take, filter, map, ℤ, pos, int_div, cond}
 use Rattle.std.proofs.Common.{refl, sym, ap, ◌∙◌, subst, add-one, arith}
 use Rattle.std.specs.declared.cmp.Ordering.{Ordering}
 use Rattle.std.specs.declared.cmp.Ordering.TheVariants.{Less, Equal, Greater}
 use Rattle.std.specs.Ordering.{nat_cmp, int_eq}
 use Rattle.std.specs.Cmp.{nat_cmp_total, ranked}
-use Rattle.std.specs.FinMap.{FinMap, empty, get, insert, entries, from_sorted, put, is_sorted}
+use Rattle.std.specs.FinMap.{FinMap, empty, insert, entries, from_sorted, put, is_sorted}
 use Rattle.std.specs.FinMap.{entries_sorted, entries-from_sorted, entries-insert, same_entries_map, len-entries, len-empty}
 use Rattle.std.specs.Cmp.{signed_Decides}
 use Rattle.std.proofs.Common.{Decides}

@@ -1,10 +1,9 @@
 -- What fails in an elimination is a sum of given rows with the right signs.
-use Rattle.std.proofs.Common.{◌≡◌, ℕ, zero, suc, negsuc, ◌+◌, Bool, true, false, IsTrue, not, ◌⊎◌, inl, inr, List, [], ◌∷◌, ◌++◌}
-use Rattle.std.proofs.Common.{map, filter, find, fold, Option, Some, None, Result, Ok, Err, slice_get, cond, if◌then◌else◌}
-use Rattle.std.proofs.Common.{ℤ, pos, ◌<ℤ◌, int_lt, nat_le, unsigned_abs, refl, sym, ap, ◌∙◌, subst, arith, Decides}
+use Rattle.std.proofs.Common.{◌≡◌, ℕ, zero, suc, negsuc, ◌+◌, Bool, true, false, not, ◌⊎◌, inl, inr, List, [], ◌∷◌, ◌++◌}
+use Rattle.std.proofs.Common.{filter, find, fold, Option, Some, None, Result, Ok, Err, slice_get, cond, if◌then◌else◌}
+use Rattle.std.proofs.Common.{ℤ, pos, ◌<ℤ◌, int_lt, nat_le, refl, sym, ap, ◌∙◌, subst, arith}
 use Rattle.std.specs.List.{flat_map, list_any}
 use Rattle.std.specs.Ordering.{int_eq}
-use Rattle.std.specs.Cmp.{signed_Decides}
 use Rattle.std.specs.FinMap.{entries}
 use Rattle.std.proofs.Common.{T, length, append_assoc}
 use Rattle.std.proofs.lemmas.List.{length_push}
@@ -17,7 +16,7 @@ use Rattle.linear_solve.specs.declared.step.Step.{Step}
 use Rattle.linear_solve.specs.declared.step.Eliminated.{Eliminated}
 use Rattle.linear_solve.specs.declared.step.Eliminated.TheVariants as outcomes
 use Rattle.linear_solve.specs.declared.limit.Limit.{Limit}
-use Rattle.linear_solve.specs.Derived.{given, factor_of, has_unknown, own_multiple, other_multiple, cleared}
+use Rattle.linear_solve.specs.Derived.{factor_of, has_unknown, own_multiple, other_multiple, cleared}
 use Rattle.linear_solve.specs.Limits.{is_wide_row, row_limit}
 use Rattle.linear_solve.specs.Levels.{Taken, passed, failing, kept, taken, taken_counted, says_truly, is_equation, is_equation_kind, same_row}
 use Rattle.linear_solve.specs.Levels.{without_first_equation, cleared_by, paired, formed, formed_by, positive_rows}
@@ -83,11 +82,11 @@ fold_good rows t (d ∷ ds) so_far all = fold_good rows (taken t d) ds (taken_go
 -- ---- what is formed is good
 
 -- a property of each row
-abbrev Each : (Derived → Type 0) → List Derived → Type 0
+abbrev pub Each : (Derived → Type 0) → List Derived → Type 0
 Each P [] = Unit {0}
 Each P (d ∷ ds) = P d × Each P ds
 
-each_kept : (P : Derived → Type 0) (b : Bool) (d : Derived) (ds : List Derived) → (b ≡ true → P d) → Each P ds
+pub each_kept : (P : Derived → Type 0) (b : Bool) (d : Derived) (ds : List Derived) → (b ≡ true → P d) → Each P ds
     → Each P (cond b (d ∷ ds) ds)
 each_kept P true d ds here rest = (here refl, rest)
 each_kept P false d ds here rest = rest
@@ -104,12 +103,12 @@ just_good : (rows : List Row) (test : Derived → Bool) (ds : List Derived)
 just_good rows test [] all = tt
 just_good rows test (d ∷ ds) all = (all.0.0, just_good rows test ds all.1)
 
-positive_own : (f : ℤ) → int_eq f (pos 0) ≡ false → pos 0 <ℤ own_multiple f
+pub positive_own : (f : ℤ) → int_eq f (pos 0) ≡ false → pos 0 <ℤ own_multiple f
 positive_own (pos zero) apart = absurd (cc)
 positive_own (pos (suc n)) apart = omega (arith, ints)
 positive_own (negsuc n) apart = omega (arith, ints)
 
-not_true : (b : Bool) → not b ≡ true → b ≡ false
+pub not_true : (b : Bool) → not b ≡ true → b ≡ false
 not_true true e = absurd (cc)
 not_true false e = refl
 
@@ -128,12 +127,12 @@ cleared_good rows u left right left_good right_good has case =
           left_good.sum.positive right_good.sum.positive case left_good.signs right_good.signs;
     }
 
-both : (P Q : Derived → Type 0) (ds : List Derived) → Each P ds → Each Q ds → Each (λ d. P d × Q d) ds
+pub both : (P Q : Derived → Type 0) (ds : List Derived) → Each P ds → Each Q ds → Each (λ d. P d × Q d) ds
 both P Q [] all_p all_q = tt
 both P Q (d ∷ ds) all_p all_q = ((all_p.0, all_q.0), both P Q ds all_p.1 all_q.1)
 
 -- by an equation
-found_each : (P : Derived → Type 0) (ds : List Derived) (e : Derived) → find is_equation ds ≡ Some e → Each P ds
+pub found_each : (P : Derived → Type 0) (ds : List Derived) (e : Derived) → find is_equation ds ≡ Some e → Each P ds
     → P e × (is_equation e ≡ true)
 found_each P [] e is all = absurd (cc)
 found_each P (d ∷ ds) e is all =
@@ -144,7 +143,7 @@ found_each P (d ∷ ds) e is all =
       | false ↦ λ _ found. found_each P ds e found all.1
     ] refl is
 
-others_each : (P : Derived → Type 0) (ds : List Derived) → Each P ds → Each P (without_first_equation ds)
+pub others_each : (P : Derived → Type 0) (ds : List Derived) → Each P ds → Each P (without_first_equation ds)
 others_each P [] all = tt
 others_each P (d ∷ ds) all = others_if (is_equation d) (others_each P ds all.1)
   where
@@ -152,14 +151,14 @@ others_each P (d ∷ ds) all = others_if (is_equation d) (others_each P ds all.1
     others_if true rest = all.1
     others_if false rest = (all.0, rest)
 
-equation_kind : (d : Derived) → is_equation d ≡ true → d.row.kind ≡ Equation
+pub equation_kind : (d : Derived) → is_equation d ≡ true → d.row.kind ≡ Equation
 equation_kind d is = by_kind d.row.kind is
   where
     by_kind : (k : RowKind) → is_equation_kind k ≡ true → k ≡ Equation
     by_kind Inequality e = absurd (cc)
     by_kind Equation e = refl
 
-inequality_kind : (d : Derived) → is_equation d ≡ false → d.row.kind ≡ Inequality
+pub inequality_kind : (d : Derived) → is_equation d ≡ false → d.row.kind ≡ Inequality
 inequality_kind d is = by_kind d.row.kind is
   where
     by_kind : (k : RowKind) → is_equation_kind k ≡ false → k ≡ Inequality
@@ -174,7 +173,7 @@ by_equation_good rows u e (d ∷ ds) good has kind all =
     (cleared_good rows u d e all.0.0 good has (inl kind), by_equation_good rows u e ds good has kind all.1)
 
 -- by pairs
-none_each : (ds : List Derived) → find is_equation ds ≡ None → Each (λ d. is_equation d ≡ false) ds
+pub none_each : (ds : List Derived) → find is_equation ds ≡ None → Each (λ d. is_equation d ≡ false) ds
 none_each [] is = tt
 none_each (d ∷ ds) is =
     elim (is_equation d) as (λ b. is_equation d ≡ b → cond b (Some d) (find is_equation ds) ≡ None
@@ -183,7 +182,7 @@ none_each (d ∷ ds) is =
       | false ↦ λ test found. (test, none_each ds found)
     ] refl is
 
-each_filter : (P : Derived → Type 0) (test : Derived → Bool) (ds : List Derived) → Each P ds
+pub each_filter : (P : Derived → Type 0) (test : Derived → Bool) (ds : List Derived) → Each P ds
     → Each (λ d. P d × (test d ≡ true)) (filter test ds)
 each_filter P test [] all = tt
 each_filter P test (d ∷ ds) all =

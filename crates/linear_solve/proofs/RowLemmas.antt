@@ -1,18 +1,15 @@
 -- Rows made factor by factor.
 use Rattle.std.proofs.Common.{◌≡◌, ◌≢◌, ℕ, zero, suc, ◌+◌, ◌<◌, ◌≤◌, Bool, true, false, T, IsTrue, not, ◌||◌, List, [], ◌∷◌, ◌++◌}
-use Rattle.std.proofs.Common.{length, get_or, take, ℤ, pos, int_div, cond, refl, sym, ap, ◌∙◌, subst, arith, Decides}
+use Rattle.std.proofs.Common.{length, get_or, take, ℤ, pos, int_div, cond, refl, sym, ap, ◌∙◌, arith}
 use Rattle.std.specs.List.{list_any}
 use Rattle.std.specs.Ordering.{nat_cmp, int_eq}
-use Rattle.std.specs.Cmp.{signed_Decides}
 use Rattle.std.specs.FinMap.{FinMap, empty, insert, entries, from_sorted, is_sorted, entries_sorted, same_entries_map}
 use Rattle.std.proofs.lemmas.List.{take_more, take_all}
 use Rattle.std.proofs.lemmas.List.Folds.{list_any-append}
 use Rattle.linear_solve.specs.Numbers.{quotients}
 use Rattle.linear_certs.specs.declared.row.RowKind.{RowKind}
-use Rattle.linear_solve.specs.declared.limit.Limit.{Limit}
 use Rattle.linear_solve.specs.declared.limit.Limit.TheVariants as limits
 use Rattle.linear_solve.specs.declared.limit.SolveRefusal.{SolveRefusal}
-use Rattle.linear_solve.specs.declared.limit.SolveRefusal.TheVariants as refusals
 use Rattle.linear_solve.specs.Derived.{row_of_sums}
 use Rattle.linear_solve.specs.Limits.{is_wide, is_wide_row, OnLimit, PassesWidth}
 use Rattle.linear_solve.proofs.TakenLemmas.{OnLimit-weaker}

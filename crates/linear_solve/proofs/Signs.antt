@@ -1,6 +1,6 @@
 -- The signs of multipliers: what comes from an inequality makes no equation, and is multiplied by positive numbers.
-use Rattle.std.proofs.Common.{◌≡◌, ◌≢◌, ℕ, Bool, true, false, T, List, [], ◌∷◌, Option, Some, None, slice_get, unwrap_or, cond}
-use Rattle.std.proofs.Common.{ℤ, pos, negsuc, ◌+ℤ◌, ◌*ℤ◌, ◌<ℤ◌, ◌≤ℤ◌, refl, sym, ap, ◌∙◌, subst, arith}
+use Rattle.std.proofs.Common.{◌≡◌, ℕ, Bool, true, false, List, Option, Some, None, slice_get, unwrap_or, cond}
+use Rattle.std.proofs.Common.{ℤ, pos, ◌+ℤ◌, ◌*ℤ◌, ◌<ℤ◌, ◌≤ℤ◌, refl, sym, ap, ◌∙◌, subst, arith}
 use Rattle.std.specs.Ordering.{nat_cmp, eq_by_cmp}
 use Rattle.std.specs.FinMap.{FinMap, empty, insert, get, entries, from_sorted, entries_sorted, get-insert, get-empty}
 use Rattle.std.specs.Cmp.{nat_cmp_total}
@@ -18,7 +18,7 @@ use Rattle.linear_solve.proofs.Sums.{weighted_sum}
 use Rattle.linear_solve.proofs.NumberLemmas.{entries-quotients}
 use Rattle.linear_solve.proofs.Weights.{weighted_sum-sums_of, weighted_sum-quotients, only}
 use Rattle.linear_solve.proofs.DivisorLemmas.{shared_exact, shared_positive}
-use Rattle.linear_solve.proofs.Soundness.{by_weight, pos_product, pos_factor, less_times, cancel}
+use Rattle.linear_solve.proofs.Soundness.{by_weight, pos_product, less_times, cancel}
 
 -- a multiplier of a given row of one kind, in a row of another
 abbrev pub FitsKind : RowKind → RowKind → ℤ → Type 0
@@ -62,7 +62,7 @@ combined_multiplier by left times right i =
     +ℤ (times *ℤ left.divisor) *ℤ by_weight i right.multipliers j)
 
 -- a factor of a number that is not negative, or is 0
-not_negative : (m c total : ℤ) → pos 0 <ℤ c → m *ℤ c ≡ total → pos 0 ≤ℤ total → pos 0 ≤ℤ m
+pub not_negative : (m c total : ℤ) → pos 0 <ℤ c → m *ℤ c ≡ total → pos 0 ≤ℤ total → pos 0 ≤ℤ m
 not_negative m c total positive is least =
     by_lt_z m (pos 0)
     (λ below. absurd (let negative = negative_product m c positive below in omega (arith, ints)))
@@ -72,10 +72,10 @@ not_negative m c total positive is least =
     negative_product m c positive below =
         let product = less_times m (pos 0) c positive below in let none = zero-*ℤ c in omega (arith, ints)
 
-zero_factor : (m c : ℤ) → pos 0 <ℤ c → m *ℤ c ≡ pos 0 → m ≡ pos 0
+pub zero_factor : (m c : ℤ) → pos 0 <ℤ c → m *ℤ c ≡ pos 0 → m ≡ pos 0
 zero_factor m c positive is = cancel m (pos 0) c positive (is ∙ sym (zero-*ℤ c))
 
-product_least : (a b : ℤ) → pos 0 <ℤ a → pos 0 ≤ℤ b → pos 0 ≤ℤ (a *ℤ b)
+pub product_least : (a b : ℤ) → pos 0 <ℤ a → pos 0 ≤ℤ b → pos 0 ≤ℤ (a *ℤ b)
 product_least a b positive least =
     by_lt_z (pos 0) b
     (λ above. let product = pos_product a b positive above in omega (arith, ints))

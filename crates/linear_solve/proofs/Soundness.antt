@@ -1,19 +1,18 @@
 -- Each row of the elimination is what its multipliers of the given rows add up to.
-use Rattle.std.proofs.Common.{◌≡◌, ◌≢◌, ℕ, zero, suc, ◌+◌, ◌<◌, Bool, true, false, T, List, [], ◌∷◌, Some, None}
-use Rattle.std.proofs.Common.{slice_get, unwrap_or, ℤ, pos, ◌+ℤ◌, ◌*ℤ◌, ◌<ℤ◌, int_div, refl, sym, ap, ◌∙◌, subst, arith}
+use Rattle.std.proofs.Common.{◌≡◌, ℕ, zero, suc, List, Some}
+use Rattle.std.proofs.Common.{slice_get, unwrap_or, ℤ, pos, ◌+ℤ◌, ◌*ℤ◌, ◌<ℤ◌, int_div, sym, ap, ◌∙◌, subst, arith}
 use Rattle.std.specs.Option.{option_map_or}
 use Rattle.std.specs.Ordering.{nat_cmp}
-use Rattle.std.specs.FinMap.{FinMap, empty, get, insert, entries, from_sorted, is_sorted}
+use Rattle.std.specs.FinMap.{FinMap, empty, get, entries, from_sorted}
 use Rattle.std.specs.FinMap.{entries_sorted, entries-insert, get-entries}
 use Rattle.std.specs.Cmp.{nat_cmp_total}
 use Rattle.std.proofs.Common.{negsuc, ◌-ℤ◌}
 use Rattle.std.specs.FinMap.{put}
 use Rattle.std.proofs.lemmas.Int.{ints, by_lt_z}
-use lib.IntN.{+ℤ_idl, +ℤ_idr, *ℤ_comm, zero-*ℤ}
+use lib.IntN.{+ℤ_idr, *ℤ_comm, zero-*ℤ}
 use Rattle.linear_certs.specs.declared.row.Row.{Row}
 use Rattle.linear_certs.specs.Certificate.{Column, constants, factors, number_in}
 use Rattle.linear_certs.proofs.Integers.{mul_add, add_mul, mul_assoc, mul_swap}
-use Rattle.linear_certs.proofs.SortedFactors.{factor_in}
 use Rattle.linear_solve.specs.declared.derived.Derived.{Derived}
 use Rattle.linear_solve.specs.Numbers.{shared_divisor, quotients}
 use Rattle.linear_solve.specs.Derived.{given, combined, sums_of}
@@ -28,7 +27,7 @@ pub by_weight : (u : ℕ) (m : FinMap nat_cmp ℤ) → unwrap_or (get m u) (pos 
 by_weight u m = ap (λ o. unwrap_or o (pos 0)) (get-entries m u) ∙ factor_in-only (entries m) (entries_sorted m) u
 
 -- the numbers of a combined row, times the divisor
-combined_number : (column : Column) (by : ℤ) (left : Derived) (times : ℤ) (right : Derived)
+pub combined_number : (column : Column) (by : ℤ) (left : Derived) (times : ℤ) (right : Derived)
     → let constant = by *ℤ left.row.constant +ℤ times *ℤ right.row.constant in
     let sums = entries (sums_of by (entries left.row.factors) times (entries right.row.factors)) in
     number_in column (combined by left times right).row *ℤ shared_divisor constant sums

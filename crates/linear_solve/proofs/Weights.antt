@@ -1,17 +1,17 @@
 -- Sums of entries, each times a weight of its index.
-use Rattle.std.proofs.Common.{◌≡◌, ◌≢◌, ℕ, zero, suc, ◌+◌, ◌<◌, ◌≤◌, Bool, true, false, T, cond, not, List, [], ◌∷◌, length}
-use Rattle.std.proofs.Common.{get_or, fold, Some, None, unwrap_or, ℤ, pos, ◌+ℤ◌, ◌*ℤ◌, int_div, refl, sym, ap, ◌∙◌}
-use Rattle.std.proofs.Common.{subst, arith, Decides}
+use Rattle.std.proofs.Common.{◌≡◌, ℕ, ◌<◌, Bool, true, false, T, cond, not, List, [], ◌∷◌}
+use Rattle.std.proofs.Common.{Some, None, unwrap_or, ℤ, pos, ◌+ℤ◌, ◌*ℤ◌, int_div, refl, sym, ap, ◌∙◌}
+use Rattle.std.proofs.Common.{arith, Decides}
 use Rattle.std.specs.declared.cmp.Ordering.{Ordering}
 use Rattle.std.specs.declared.cmp.Ordering.TheVariants.{Less, Equal, Greater}
 use Rattle.std.specs.Ordering.{nat_cmp, int_eq, is_eq, eq_by_cmp}
 use Rattle.std.specs.Cmp.{nat_cmp_total, ranked, signed_Decides}
-use Rattle.std.specs.FinMap.{FinMap, empty, get, insert, entries, find, put, is_sorted}
+use Rattle.std.specs.FinMap.{FinMap, empty, entries, find, put, is_sorted}
 use Rattle.std.specs.FinMap.{entries_sorted, entries-insert, get-entries}
 use Rattle.std.proofs.lemmas.Int.{ints}
 use lib.IntN.{+ℤ_idl, +ℤ_idr, +ℤ_comm, +ℤ_assoc, *ℤ-zero, zero-*ℤ}
-use Rattle.linear_certs.proofs.Integers.{add_across, mul_add, add_mul, mul_assoc, mul_swap}
-use Rattle.linear_certs.proofs.SortedFactors.{factor_in, factor_in-cons, alone, find_absent, first_below, sorted_tail}
+use Rattle.linear_certs.proofs.Integers.{mul_add, add_mul, mul_assoc}
+use Rattle.linear_certs.proofs.SortedFactors.{factor_in, factor_in-cons, find_absent, first_below, sorted_tail}
 use Rattle.linear_solve.specs.Numbers.{number_at, plus_at, plus_multiple, quotients}
 use Rattle.linear_solve.specs.Derived.{sums_of}
 use Rattle.linear_solve.proofs.Sums.{weighted_sum}

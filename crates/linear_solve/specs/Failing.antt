@@ -2,7 +2,6 @@
 use Rattle.std.specs.Prelude.{ℕ, List, map, ℤ, pos, negsuc, ◌*ℤ◌, int_lt, if◌then◌else◌}
 use Rattle.std.specs.FinMap.{entries}
 use Rattle.rc_terms.specs.declared.cert.Cert.{Cert}
-use Rattle.rc_terms.specs.declared.cert.CertEntry.{CertEntry}
 use Rattle.linear_solve.specs.declared.derived.Derived.{Derived}
 use Rattle.linear_solve.specs.Numbers.{shared_divisor, quotients}
 

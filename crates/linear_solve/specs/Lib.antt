@@ -4,3 +4,9 @@ pub mod Derived
 pub mod Limits
 pub mod Levels
 pub mod Failing
+pub mod Fractions
+pub mod Models
+pub mod Unknowns
+pub mod Solutions
+pub mod Keys
+pub mod Codes

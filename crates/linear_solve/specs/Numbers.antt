@@ -2,7 +2,7 @@
 use Rattle.std.specs.Prelude.{ℕ, List, ℤ, pos, ◌+ℤ◌, ◌*ℤ◌, unsigned_abs, int_div, max, fold, unwrap_or, filter}
 use Rattle.std.specs.Prelude.{map, not}
 use Rattle.std.specs.Ordering.{nat_cmp, int_eq}
-use Rattle.std.specs.FinMap.{FinMap, empty, get, insert}
+use Rattle.std.specs.FinMap.{FinMap, get, insert}
 use Rattle.linear_solve.specs.Divisors.{common_divisor}
 
 -- the number at an index

@@ -139,7 +139,7 @@ impl Derived {
 }
 
 /// What the other row is multiplied by, where it has `factor` and the row that is cleared has `own`.
-fn other_multiple(alloc: Global, factor: &Whole, own: Whole) -> Result<Whole, NoMemory>
+pub fn other_multiple(alloc: Global, factor: &Whole, own: Whole) -> Result<Whole, NoMemory>
     ensures { IfOk result (λ multiple. multiple ≡ other_multiple factor.now own) }
 {
     if factor.is_negative() {
@@ -150,7 +150,7 @@ fn other_multiple(alloc: Global, factor: &Whole, own: Whole) -> Result<Whole, No
 }
 
 /// The sum of two products.
-fn weighted(
+pub fn weighted(
     alloc: Global,
     by: &Whole,
     left: i128,

@@ -5,6 +5,7 @@ ghost use Rattle.linear_solve.specs.Levels.{first_level, elimination, rows_with,
 
 use crate::derived::Derived;
 use crate::level::Level;
+use crate::level_rows::LevelRows;
 use crate::limit::SolveRefusal;
 use crate::step::{Eliminated, Step};
 use linear_certs::Row;
@@ -18,7 +19,7 @@ pub fn eliminate(alloc: Global, rows: &[Row], unknowns: &[u32]) -> Result<Elimin
         (λ limit. elimination unknowns.now (first_level rows.now) ≡ Err limit)) }
 {
     let mut level = Level {
-        rows: Vec::new(alloc),
+        rows: LevelRows::new(alloc),
         count: 0,
     };
     let mut steps = Vec::new(alloc);
@@ -46,21 +47,21 @@ pub fn eliminate(alloc: Global, rows: &[Row], unknowns: &[u32]) -> Result<Elimin
 #[derive(Drop)]
 struct Parts {
     with: Vec<Derived>,
-    without: Vec<Derived>,
+    without: LevelRows,
 }
 
-fn parted(alloc: Global, rows: Vec<Derived>, unknown: u32) -> Result<Parts, SolveRefusal>
-    ensures with { IfOk result (λ parts. parts.with.items ≡ rows_with unknown rows.items) }
-    ensures without { IfOk result (λ parts. parts.without.items ≡ rows_without unknown rows.items) }
+fn parted(alloc: Global, rows: LevelRows, unknown: u32) -> Result<Parts, SolveRefusal>
+    ensures with { IfOk result (λ parts. parts.with.items ≡ rows_with unknown rows) }
+    ensures without { IfOk result (λ parts. parts.without ≡ rows_without unknown rows) }
     ensures memory { IfErr result (λ refusal. refusal ≡ refusals.NoMemory) }
 {
     let mut with = Vec::new(alloc);
-    let mut without = Vec::new(alloc);
-    for row in rows {
+    let mut without = LevelRows::new(alloc);
+    for row in rows.into_vec() {
         if row.has(unknown) {
             with.push(row)?;
         } else {
-            without.push(row)?;
+            without.push(alloc, row)?;
         }
     }
     Ok(Parts { with, without })

@@ -2,11 +2,12 @@ ghost use Rattle.std.specs.Prelude.{◌≡◌, ◌≤◌, ◌+◌, ◌<◌, fals
 ghost use Rattle.std.specs.Prelude.{IfOk, IfErr, MatchOption, if◌then◌else◌};
 ghost use Rattle.std.specs.List.{list_any};
 ghost use Rattle.linear_solve.specs.Limits.{is_wide, is_wide_row, OnLimit};
-ghost use Rattle.linear_solve.specs.Levels.{taken_next, taken, kept, failing, passed, same_row, says_truly};
+ghost use Rattle.linear_solve.specs.Levels.{taken_next, taken, kept, failing, passed, says_truly};
 ghost use Rattle.linear_solve.specs.Levels.{first_level};
 ghost use Rattle.linear_solve.specs.Levels.{formed, cleared_by, pairs, paired, negative_rows, is_equation};
 
 use crate::derived::Derived;
+use crate::level_rows::LevelRows;
 use crate::limit::{Limit, SolveRefusal};
 use linear_certs::{Row, RowKind};
 use std::alloc::Global;
@@ -17,7 +18,7 @@ const ROW_LIMIT: u32 = 200_000;
 /// Rows of a level, taken one by one.
 #[derive(Debug, Drop)]
 pub struct Level {
-    pub rows: Vec<Derived>,
+    pub rows: LevelRows,
     pub count: u32,
 }
 
@@ -28,10 +29,10 @@ impl Level {
         alloc: Global,
         rows: &[Row],
     ) -> Result<Option<Derived>, SolveRefusal>
-        requires empty { self.old.rows.items ≡ [] }
+        requires empty { self.old.rows ≡ [] }
         requires uncounted { self.old.count ≡ 0 }
         ensures ok { IfOk result (λ row. MatchOption row
-            (first_level rows.now ≡ kept self.new.rows.items self.new.count)
+            (first_level rows.now ≡ kept self.new.rows self.new.count)
             (λ row. first_level rows.now ≡ failing row)) }
         ensures limit { IfErr result (λ refusal. OnLimit refusal (λ limit. first_level rows.now ≡ passed limit)) }
     {
@@ -40,7 +41,7 @@ impl Level {
                 return Err(SolveRefusal::Limit(Limit::Width));
             }
             let derived = Derived::given(alloc, self.count, row)?;
-            if let Some(failing) = self.take(derived)? {
+            if let Some(failing) = self.take(alloc, derived)? {
                 return Ok(Some(failing));
             }
         }
@@ -55,11 +56,11 @@ impl Level {
         rows: &[Derived],
     ) -> Result<Option<Derived>, SolveRefusal>
         ensures ok { IfOk result (λ row. MatchOption row
-            (fold taken (kept self.old.rows.items self.old.count) (formed unknown rows.now)
-            ≡ kept self.new.rows.items self.new.count)
-            (λ row. fold taken (kept self.old.rows.items self.old.count) (formed unknown rows.now) ≡ failing row)) }
+            (fold taken (kept self.old.rows self.old.count) (formed unknown rows.now)
+            ≡ kept self.new.rows self.new.count)
+            (λ row. fold taken (kept self.old.rows self.old.count) (formed unknown rows.now) ≡ failing row)) }
         ensures limit { IfErr result (λ refusal. OnLimit refusal (λ limit.
-            fold taken (kept self.old.rows.items self.old.count) (formed unknown rows.now) ≡ passed limit)) }
+            fold taken (kept self.old.rows self.old.count) (formed unknown rows.now) ≡ passed limit)) }
     {
         let Some(at) = first_equation(rows) else {
             return self.take_pairs(alloc, unknown, rows);
@@ -80,17 +81,17 @@ impl Level {
         equation: &Derived,
     ) -> Result<Option<Derived>, SolveRefusal>
         ensures ok { IfOk result (λ row. MatchOption row
-            (fold taken (kept self.old.rows.items self.old.count) (cleared_by unknown equation.now rows.now)
-            ≡ kept self.new.rows.items self.new.count)
-            (λ row. fold taken (kept self.old.rows.items self.old.count) (cleared_by unknown equation.now rows.now)
+            (fold taken (kept self.old.rows self.old.count) (cleared_by unknown equation.now rows.now)
+            ≡ kept self.new.rows self.new.count)
+            (λ row. fold taken (kept self.old.rows self.old.count) (cleared_by unknown equation.now rows.now)
             ≡ failing row)) }
         ensures limit { IfErr result (λ refusal. OnLimit refusal (λ limit.
-            fold taken (kept self.old.rows.items self.old.count) (cleared_by unknown equation.now rows.now)
+            fold taken (kept self.old.rows self.old.count) (cleared_by unknown equation.now rows.now)
             ≡ passed limit)) }
     {
         for row in rows {
             let derived = row.cleared(alloc, unknown, equation)?;
-            if let Some(failing) = self.take(derived)? {
+            if let Some(failing) = self.take(alloc, derived)? {
                 return Ok(Some(failing));
             }
         }
@@ -105,11 +106,11 @@ impl Level {
         rows: &[Derived],
     ) -> Result<Option<Derived>, SolveRefusal>
         ensures ok { IfOk result (λ row. MatchOption row
-            (fold taken (kept self.old.rows.items self.old.count) (pairs unknown rows.now)
-            ≡ kept self.new.rows.items self.new.count)
-            (λ row. fold taken (kept self.old.rows.items self.old.count) (pairs unknown rows.now) ≡ failing row)) }
+            (fold taken (kept self.old.rows self.old.count) (pairs unknown rows.now)
+            ≡ kept self.new.rows self.new.count)
+            (λ row. fold taken (kept self.old.rows self.old.count) (pairs unknown rows.now) ≡ failing row)) }
         ensures limit { IfErr result (λ refusal. OnLimit refusal (λ limit.
-            fold taken (kept self.old.rows.items self.old.count) (pairs unknown rows.now) ≡ passed limit)) }
+            fold taken (kept self.old.rows self.old.count) (pairs unknown rows.now) ≡ passed limit)) }
     {
         for row in rows {
             if row.is_positive(unknown) {
@@ -130,22 +131,22 @@ impl Level {
         rows: &[Derived],
     ) -> Result<Option<Derived>, SolveRefusal>
         ensures ok { IfOk result (λ failing_row. MatchOption failing_row
-            (fold taken (kept self.old.rows.items self.old.count)
+            (fold taken (kept self.old.rows self.old.count)
             (paired unknown row.now (negative_rows unknown rows.now))
-            ≡ kept self.new.rows.items self.new.count)
+            ≡ kept self.new.rows self.new.count)
             (λ failing_row.
-            fold taken (kept self.old.rows.items self.old.count)
+            fold taken (kept self.old.rows self.old.count)
             (paired unknown row.now (negative_rows unknown rows.now))
             ≡ failing failing_row)) }
         ensures limit { IfErr result (λ refusal. OnLimit refusal (λ limit.
-            fold taken (kept self.old.rows.items self.old.count)
+            fold taken (kept self.old.rows self.old.count)
             (paired unknown row.now (negative_rows unknown rows.now))
             ≡ passed limit)) }
     {
         for other in rows {
             if other.is_negative(unknown) {
                 let derived = row.cleared(alloc, unknown, other)?;
-                if let Some(failing) = self.take(derived)? {
+                if let Some(failing) = self.take(alloc, derived)? {
                     return Ok(Some(failing));
                 }
             }
@@ -155,13 +156,13 @@ impl Level {
 
     /// Takes one row more, and gives it back where it has no unknowns and fails. After an error nothing is known
     /// of the level.
-    pub fn take(&mut self, derived: Derived) -> Result<Option<Derived>, SolveRefusal>
+    pub fn take(&mut self, alloc: Global, derived: Derived) -> Result<Option<Derived>, SolveRefusal>
         requires { is_wide_row derived.row ≡ false }
         ensures ok { IfOk result (λ row. MatchOption row
-            (taken_next self.old.rows.items self.old.count derived ≡ kept self.new.rows.items self.new.count)
-            (λ row. taken_next self.old.rows.items self.old.count derived ≡ failing row)) }
+            (taken_next self.old.rows self.old.count derived ≡ kept self.new.rows self.new.count)
+            (λ row. taken_next self.old.rows self.old.count derived ≡ failing row)) }
         ensures limit { IfErr result (λ refusal. OnLimit refusal
-            (λ limit. taken_next self.old.rows.items self.old.count derived ≡ passed limit)) }
+            (λ limit. taken_next self.old.rows self.old.count derived ≡ passed limit)) }
     {
         if self.count >= ROW_LIMIT {
             return Err(SolveRefusal::Limit(Limit::Rows));
@@ -170,8 +171,8 @@ impl Level {
         if derived.row.factors.as_slice().is_empty() {
             return Ok(failing_constant(derived));
         }
-        if !has_row(&self.rows, &derived.row) {
-            self.rows.push(derived)?;
+        if !self.rows.has(alloc, &derived.row)? {
+            self.rows.push(alloc, derived)?;
         }
         Ok(None)
     }
@@ -222,18 +223,4 @@ fn first_equation(rows: &[Derived]) -> Option<usize>
     ensures { result ≡ position is_equation rows.now }
 {
     rows.iter().position(|row| row.row.is_equation())
-}
-
-fn has_row(rows: &[Derived], row: &Row) -> bool
-    ensures { result ≡ list_any (λ other. same_row other.row row.now) rows.now }
-{
-    rows.iter().any(|other| same_row(&other.row, row))
-}
-
-fn same_row(row: &Row, other: &Row) -> bool
-    ensures { result ≡ same_row row.now other.now }
-{
-    row.kind == other.kind
-        && row.constant == other.constant
-        && row.factors.as_slice() == other.factors.as_slice()
 }

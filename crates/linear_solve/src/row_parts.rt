@@ -76,7 +76,7 @@ fn insert_unless_zero(factors: &mut Factors, unknown: u32, factor: i128) -> Resu
 }
 
 /// The number, where it isn't beyond 2^120.
-fn narrow(number: &Whole) -> Result<i128, SolveRefusal>
+pub fn narrow(number: &Whole) -> Result<i128, SolveRefusal>
     ensures ok { IfOk result (λ narrow. narrow ≡ number.now) }
     ensures narrow { OnOk result (is_wide number.now ≡ false) }
     ensures wide { IfErr result (λ refusal. OnLimit refusal

@@ -1,3 +1,5 @@
+mod solutions;
+mod solving;
 mod tables;
 
 use crate::tests::tables::{CHANCE_1, CHANCE_2, CHANCE_3, CHANCE_4, Case, HAND_1, HAND_2, HAND_3};

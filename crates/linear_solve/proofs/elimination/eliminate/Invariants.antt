@@ -5,5 +5,5 @@ use Rattle.linear_solve.proofs.elimination.eliminate.Given as goal
 
 abbrev pub invariant-loop-unknown : goal.invariant-loop-unknown
 invariant-loop-unknown l =
-    after_steps l.steps.items (elimination (drop l.unknown-index l.unknowns) (kept l.level.rows.items l.level.count))
+    after_steps l.steps.items (elimination (drop l.unknown-index l.unknowns) (kept l.level.rows l.level.count))
     ≡ elimination l.unknowns (first_level l.rows)

@@ -1,9 +1,8 @@
-use Rattle.std.proofs.Common.{◌≡◌, ℤ, T, FitsSigned, pos, get_or, refl, sym, ap, ◌∙◌, subst, rules}
+use Rattle.std.proofs.Common.{T, FitsSigned, pos, get_or, refl, sym, ap, ◌∙◌, subst, rules}
 use Rattle.std.specs.Ordering.{nat_cmp}
 use Rattle.std.specs.FinMap.{entries, entries_sorted, is_sorted}
 use Rattle.std.proofs.lemmas.Int.{to_z-of_z}
 use mir.Syntax.{w128}
-use Rattle.linear_certs.specs.declared.row.Row.{Row}
 use Rattle.linear_solve.proofs.NumberLemmas.{entries-empty}
 use Rattle.linear_solve.proofs.RowLemmas.{copy_step, copy_end}
 use Rattle.linear_solve.proofs.row_parts.copy_of.Goals as goal

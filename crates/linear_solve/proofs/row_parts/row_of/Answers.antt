@@ -1,4 +1,4 @@
-use Rattle.std.proofs.Common.{◌≡◌, IsTrue, T, FitsSigned, int_div, refl, sym, ap, ◌∙◌, subst, rules}
+use Rattle.std.proofs.Common.{◌≡◌, IsTrue, T, FitsSigned, int_div, sym, ap, ◌∙◌, subst, rules}
 use Rattle.std.specs.Ordering.{nat_cmp}
 use Rattle.std.specs.FinMap.{entries_sorted, is_sorted}
 use Rattle.std.proofs.lemmas.Int.{to_z-of_z}

@@ -5,7 +5,7 @@ use Rattle.linear_solve.proofs.level.Level.take_pairs.Given as goal
 
 abbrev pub invariant-loop-row : goal.invariant-loop-row
 invariant-loop-row l =
-    fold taken (kept l.self.rows.items l.self.count)
+    fold taken (kept l.self.rows l.self.count)
     (flat_map (λ row. paired l.unknown row (negative_rows l.unknown l.rows))
     (positive_rows l.unknown (drop l.row-index l.rows)))
-    ≡ fold taken (kept l.fn.self.rows.items l.fn.self.count) (pairs l.unknown l.rows)
+    ≡ fold taken (kept l.fn.self.rows l.fn.self.count) (pairs l.unknown l.rows)

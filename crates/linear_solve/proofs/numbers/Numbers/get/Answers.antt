@@ -1,4 +1,4 @@
-use Rattle.std.proofs.Common.{ℕ, ℤ, T, Some, None, sym, ap, ◌∙◌, subst, rules, arith}
+use Rattle.std.proofs.Common.{T, Some, sym, ap, ◌∙◌, subst, rules, arith}
 use Rattle.std.proofs.lemmas.List.Sorted.{answers_always}
 use Rattle.linear_certs.proofs.SortedFactors.{found_by_search, absent_by_search, get_of_view}
 use Rattle.linear_solve.proofs.numbers.Numbers.get.Goals as goal

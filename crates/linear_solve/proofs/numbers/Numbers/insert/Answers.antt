@@ -1,4 +1,4 @@
-use Rattle.std.proofs.Common.{ℕ, ℤ, T, sym, ◌∙◌, subst, rules, arith}
+use Rattle.std.proofs.Common.{T, sym, ◌∙◌, subst, rules, arith}
 use Rattle.std.proofs.lemmas.List.Sorted.{answers_always}
 use Rattle.linear_certs.proofs.SortedFactors.{sorted_put, view_put, put_by_search, put_in_gap}
 use Rattle.linear_solve.proofs.numbers.Numbers.insert.Goals as goal
