@@ -1,6 +1,9 @@
-pub mod Accesses
+pub mod Blocks
+pub mod Found
+pub mod Fragments
 pub mod LiteralThreads
-pub mod NextFunctions
+pub mod Members
+pub mod Numbers
 pub mod Outcomes
 pub mod Stacks
 pub mod Threads

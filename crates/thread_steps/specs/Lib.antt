@@ -1,10 +1,13 @@
 pub mod Access
 pub mod Answer
+pub mod Calls
 pub mod Configuration
 pub mod FindNext
 pub mod Frame
+pub mod Gives
 pub mod LiteralStart
 pub mod Next
+pub mod Operands
 pub mod Operations
 pub mod Race
 pub mod Run

@@ -3,7 +3,8 @@
 use Rattle.std.specs.Prelude.{ℕ, ◌≡◌, ◌≢◌, not, ◌&&◌, ◌||◌, IsTrue, Some, slice_get, Contains}
 use Rattle.caesium_ir.specs.declared.program.Program.{Program}
 use Rattle.thread_steps.specs.declared.thread.Thread.{Thread}
-use Rattle.thread_steps.specs.Access.{Access, Covers, accesses_of}
+use Rattle.thread_steps.specs.declared.access.Access.{Access}
+use Rattle.thread_steps.specs.Access.{IsIn, accesses_of}
 use Rattle.thread_steps.specs.Configuration.{Configuration}
 
 -- two accesses to one byte conflict where one of them writes it, and not both are atomic
@@ -20,10 +21,10 @@ pub record IsRace (program : Program) (config : Configuration) (i j block offset
   pub other_is : slice_get config.threads j ≡ Some other
   pub access : Access
   pub against : Access
-  pub touches : Contains (accesses_of program config.memory one) access
-  pub touched : Contains (accesses_of program config.memory other) against
-  pub covers : Covers access block offset
-  pub covered : Covers against block offset
+  pub touches : Contains (accesses_of program one) access
+  pub touched : Contains (accesses_of program other) against
+  pub covers : IsIn config.memory access.bytes block offset
+  pub covered : IsIn config.memory against.bytes block offset
   pub conflict : Conflicts access against
 
 -- some two threads race for some byte

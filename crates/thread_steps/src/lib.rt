@@ -3,23 +3,29 @@
 //! operations by `operate`.
 #![tactic(auto)]
 
+mod access;
+mod accesses;
 mod answer;
+mod arithmetic;
+mod block_ends;
+mod calls;
 mod config;
 mod frame;
 mod laws;
 mod next;
+mod op_steps;
+mod operands;
 mod operations;
+mod pointers;
 mod stack;
 mod thread;
 
-pub use answer::{Stepped, Ub};
+pub use access::{Access, Touched};
+pub use answer::{Stepped, Stop, Ub};
 pub use config::{Config, start, step};
 pub use frame::Frame;
 pub use laws::{literal_runs_are_sound, running_threads_step_or_are_stuck, steps_are_determined};
 pub use next::{Next, find_next};
 pub use operations::{operand_count, operate};
 pub use stack::Stack;
-pub use thread::Thread;
-
-#[cfg(test)]
-mod tests;
+pub use thread::{Taken, Thread};
