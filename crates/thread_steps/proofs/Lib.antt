@@ -1,4 +1,5 @@
 pub mod Blocks
+pub mod Bytes
 pub mod Found
 pub mod Fragments
 pub mod LiteralThreads
@@ -7,3 +8,4 @@ pub mod Numbers
 pub mod Outcomes
 pub mod Stacks
 pub mod Threads
+pub mod Writes

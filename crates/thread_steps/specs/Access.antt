@@ -1,6 +1,6 @@
 -- Which bytes of memory a step touches (this project's own).
 use Rattle.std.specs.Prelude.{ℕ, ◌≡◌, ◌<◌, ℤ, pos, ◌≤ℤ◌, ◌<ℤ◌, ◌+ℤ◌, Bool, true, false, List, [], ◌∷◌, ◌++◌, map}
-use Rattle.std.specs.Prelude.{Option, Some, None}
+use Rattle.std.specs.Prelude.{◌⊎◌, IsTrue, Option, Some, None}
 use Rattle.layouts.specs.declared.table.Declaration.{Declaration}
 use Rattle.layouts.specs.Table.{bytes_of}
 use Rattle.rc_terms.specs.declared.location.Loc.{Loc}
@@ -66,3 +66,9 @@ next_accesses table (Some (Ends function end)) frame = end_accesses end frame
 abbrev pub accesses_of : Program → Thread → List Access
 accesses_of program (Running top callers) = next_accesses program.table (next_of program top) top
 accesses_of program (Finished value) = []
+
+-- one of the accesses writes the byte at this offset of this block
+abbrev pub IsWritten : Memory → List Access → ℕ → ℕ → Type 0
+IsWritten memory [] block offset = ⊥
+IsWritten memory (access ∷ accesses) block offset =
+    (IsTrue access.writes × IsIn memory access.bytes block offset) ⊎ IsWritten memory accesses block offset

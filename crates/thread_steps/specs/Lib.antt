@@ -1,4 +1,5 @@
 pub mod Access
+pub mod Accesses
 pub mod Answer
 pub mod Calls
 pub mod Configuration

@@ -20,12 +20,18 @@ mod pointers;
 mod stack;
 mod thread;
 
-pub use access::{Access, Touched};
+pub use access::{Access, Accesses, Touched, next_access};
 pub use answer::{Stepped, Stop, Ub};
 pub use config::{Config, start, step};
 pub use frame::Frame;
-pub use laws::{literal_runs_are_sound, running_threads_step_or_are_stuck, steps_are_determined};
+pub use laws::{
+    literal_runs_are_sound, running_threads_step_or_are_stuck, steps_are_determined,
+    steps_write_what_they_access,
+};
 pub use next::{Next, find_next};
 pub use operations::{operand_count, operate};
 pub use stack::Stack;
 pub use thread::{Taken, Thread};
+
+#[cfg(test)]
+mod tests;
