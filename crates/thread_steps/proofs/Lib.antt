@@ -2,10 +2,12 @@ pub mod Blocks
 pub mod Bytes
 pub mod Found
 pub mod Fragments
+pub mod Least
 pub mod LiteralThreads
 pub mod Members
 pub mod Numbers
 pub mod Outcomes
+pub mod RaceLemmas
 pub mod Stacks
 pub mod Threads
 pub mod Writes

@@ -4,6 +4,7 @@ pub mod Answer
 pub mod Calls
 pub mod Configuration
 pub mod FindNext
+pub mod FindRace
 pub mod Frame
 pub mod Gives
 pub mod LiteralStart

@@ -17,6 +17,7 @@ mod op_steps;
 mod operands;
 mod operations;
 mod pointers;
+mod races;
 mod stack;
 mod thread;
 
@@ -30,6 +31,7 @@ pub use laws::{
 };
 pub use next::{Next, find_next};
 pub use operations::{operand_count, operate};
+pub use races::race;
 pub use stack::Stack;
 pub use thread::{Taken, Thread};
 

@@ -1,6 +1,9 @@
 ghost use Rattle.std.specs.Prelude.{◌≡◌, IfOk, IfSome};
 ghost use Rattle.caesium_ir.specs.WellFormed.{IsWellFormed};
 
+mod memory_rows;
+mod operation_rows;
+
 use super::*;
 use byte_memory::{MByte, Memory, Value};
 use caesium_ir::{Block, End, Function, LiteralPlaces, Op, PlacedOp, Program, one_literal};
