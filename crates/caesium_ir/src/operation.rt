@@ -60,41 +60,76 @@ impl BinaryOperator {
 #[derive(Debug, Drop)]
 pub enum Op {
     /// `const T n`: pushes a number of the type.
-    Const { of: IntType, value: i128 },
+    Const {
+        of: IntType,
+        value: i128,
+    },
     /// `const bool n`: pushes a truth value.
-    ConstBool { value: bool },
+    ConstBool {
+        value: bool,
+    },
     /// `const null`: pushes the null pointer.
     Null,
     /// `const poison k`: pushes a value of this many bytes, each of them poison.
-    Poison { size: u32 },
+    Poison {
+        size: u32,
+    },
     /// `local x`: pushes the location of the local that has this number among the parameters and then the further
     /// locals of the function.
-    Local { number: u32 },
+    Local {
+        number: u32,
+    },
     /// `field s.i`: moves a pointer by the offset of a member, which counts from 0, of the struct or union that the
     /// table has under this number.
-    Field { of: u32, member: u32 },
+    Field {
+        of: u32,
+        member: u32,
+    },
     /// `index k T`: pops an integer of the type and a pointer, and moves the pointer by so many times `size` bytes.
-    Index { size: u32, of: IntType },
+    Index {
+        size: u32,
+        of: IntType,
+    },
     /// `load L`: pops a pointer, and pushes the bytes there.
-    Load { layout: Layout },
+    Load {
+        layout: Layout,
+    },
     /// `load atomic bool`: the same of one byte, atomically.
     LoadAtomic,
     /// `store L`: pops a value and a pointer, stores, and pushes the value.
-    Store { layout: Layout },
+    Store {
+        layout: Layout,
+    },
     /// `store atomic bool`: the same of one byte, atomically.
     StoreAtomic,
     /// `neg T`
-    Neg { of: IntType },
+    Neg {
+        of: IntType,
+    },
     /// `compl T`
-    Compl { of: IntType },
+    Compl {
+        of: IntType,
+    },
     /// An operator on two integers of the type.
-    Binary { operator: BinaryOperator, of: IntType },
+    Binary {
+        operator: BinaryOperator,
+        of: IntType,
+    },
     /// `shl T U`: the amount is of the second type.
-    Shl { of: IntType, amount: IntType },
+    Shl {
+        of: IntType,
+        amount: IntType,
+    },
     /// `shr T U`: the amount is of the second type.
-    Shr { of: IntType, amount: IntType },
+    Shr {
+        of: IntType,
+        amount: IntType,
+    },
     /// `cast A B`
-    Cast { from: Scalar, to: Scalar },
+    Cast {
+        from: Scalar,
+        to: Scalar,
+    },
     /// `ptr_eq`: pops two pointers, and pushes 1 of type `int` where they are equal, else 0.
     PtrEq,
     /// `ptr_ne`: pops two pointers, and pushes 0 of type `int` where they are equal, else 1.
@@ -106,9 +141,15 @@ pub enum Op {
     /// `exchange`: pops a bool and a pointer, stores it, and pushes the old one.
     Exchange,
     /// `call f`: pops so many arguments, the last one first, and calls. What the function returns is pushed later.
-    Call { function: Reference, arguments: u32 },
+    Call {
+        function: Reference,
+        arguments: u32,
+    },
     /// `fork f`: the same in a new thread; pushes nothing.
-    Fork { function: Reference, arguments: u32 },
+    Fork {
+        function: Reference,
+        arguments: u32,
+    },
     /// `drop`: pops one value, and pushes nothing.
     Drop,
 }

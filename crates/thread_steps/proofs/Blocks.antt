@@ -47,9 +47,9 @@ pub opened_blocks : (first middle : ℕ) (parameters others opened opened_others
     all ≡ blocks_from first (parameters ++ others)
 opened_blocks first middle parameters others opened opened_others none some all same same_others empty front next is =
     let start : some ≡ blocks_from first parameters =
-        front ∙ ap (λ xs. xs ++ blocks_from first opened) empty ∙ ap (blocks_from first) same in
+    front ∙ ap (λ xs. xs ++ blocks_from first opened) empty ∙ ap (blocks_from first) same in
     let behind : blocks_from middle opened_others ≡ blocks_from (first + length parameters) others =
-        ap (λ n. blocks_from n opened_others) (next ∙ ap (λ (xs : List Local). first + length xs) same)
-        ∙ ap (blocks_from (first + length parameters)) same_others in
+    ap (λ n. blocks_from n opened_others) (next ∙ ap (λ (xs : List Local). first + length xs) same)
+    ∙ ap (blocks_from (first + length parameters)) same_others in
     is ∙ ap (λ xs. xs ++ blocks_from middle opened_others) start ∙ ap (λ xs. blocks_from first parameters ++ xs) behind
     ∙ blocks_joined first parameters others

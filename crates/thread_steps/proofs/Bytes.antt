@@ -80,13 +80,13 @@ in_block memory of block at offset bytes value reach free (inl same) =
     let old = get_or_from_slice_get memory of (Open bytes) (Closed 0) reach.alive in
     let new = Open (take at bytes ++ (value ++ drop (at + length value) bytes)) in
     let is : stored memory (locations.At of (pos at)) value ≡ slice_set memory of new =
-        ap (λ b. slice_set memory of (overwritten b (pos at) value)) old in
+    ap (λ b. slice_set memory of (overwritten b (pos at) value)) old in
     let within = slice_get_inside memory of (Open bytes) reach.alive in
     let apart = where_beside at (length value) offset
-        (λ low high. free (same, omega (arith, ints), omega (arith, ints))) in
+    (λ low high. free (same, omega (arith, ints), omega (arith, ints))) in
     let here : byte_at (stored memory (locations.At of (pos at)) value) of offset ≡ byte_at memory of offset =
-        ap (λ m. byte_at m of offset) is ∙ ap (byte_in offset) (slice_get-set_same memory of new within)
-        ∙ beside value bytes at (at + length value) offset refl reach.inside apart ∙ sym (ap (byte_in offset) reach.alive) in
+    ap (λ m. byte_at m of offset) is ∙ ap (byte_in offset) (slice_get-set_same memory of new within)
+    ∙ beside value bytes at (at + length value) offset refl reach.inside apart ∙ sym (ap (byte_in offset) reach.alive) in
     subst (λ n. byte_at (stored memory (locations.At of (pos at)) value) n offset ≡ byte_at memory n offset) same here
 in_block memory of block at offset bytes value reach free (inr other) =
     ap (byte_in offset) (slice_get-set_other memory of block _ (λ is. other (sym is)))

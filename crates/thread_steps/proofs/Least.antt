@@ -80,7 +80,7 @@ tested_true one other m n is also h =
       | inr g ↦ (let parts = split_and (one.block == other.block) (int_lt one.offset other.offset) g in
           let same : one.block ≡ other.block = (Decides-eqb one.block other.block).0 parts.0 in
           let least = int_before m n (subst (λ z. int_lt (pos m) z ≡ true) also
-              (subst (λ z. int_lt z other.offset ≡ true) is parts.1)) in
+          (subst (λ z. int_lt z other.offset ≡ true) is parts.1)) in
           inr (same, omega arith))
     ]
 
@@ -91,9 +91,9 @@ tested_false one other m n is also h =
     let far : other.block ≤ one.block = not_below one.block other.block blocks.0 in
     elim (eqb_tells one.block other.block) [
       | inl g ↦ (let offsets : int_lt one.offset other.offset ≡ false =
-              second_false (one.block == other.block) _ g.0 blocks.1 in
+          second_false (one.block == other.block) _ g.0 blocks.1 in
           let least = int_not_before m n (subst (λ z. int_lt (pos m) z ≡ false) also
-              (subst (λ z. int_lt z other.offset ≡ false) is offsets)) in
+          (subst (λ z. int_lt z other.offset ≡ false) is offsets)) in
           inr (sym g.1, least))
       | inr g ↦ inl (strictly one.block other.block far g.1)
     ]
@@ -280,9 +280,10 @@ first_of one other h =
     let parts = split_and (one.block == other.block) _ h in
     let same : one.block ≡ other.block = (Decides-eqb one.block other.block).0 parts.0 in
     let below : max one.low other.low < min one.high other.high =
-        (Decides-ltb (max one.low other.low) (min one.high other.high)).0 parts.1 in
-    (record { block = refl; low = omega arith; high = omega arith },
-    record { block = sym same; low = omega arith; high = omega arith })
+    (Decides-ltb (max one.low other.low) (min one.high other.high)).0 parts.1 in (
+      record { block = refl; low = omega arith; high = omega arith },
+      record { block = sym same; low = omega arith; high = omega arith },
+    )
 
 conflicts : (one other : Access) → conflict one other ≡ true → Conflicts one other
 conflicts one other h =

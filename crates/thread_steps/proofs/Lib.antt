@@ -9,5 +9,6 @@ pub mod Numbers
 pub mod Outcomes
 pub mod RaceLemmas
 pub mod Stacks
+pub mod TestLemmas
 pub mod Threads
 pub mod Writes

@@ -208,7 +208,7 @@ module _ (name : List ℕ) (literal : ℕ) (places : LiteralPlaces) where
   no_race config known i j block offset race =
       let (state, state_is) = known i race.one race.one_is in
       let none : accesses_of program race.one ≡ [] =
-          subst (λ t. accesses_of program t ≡ []) state_is (untouched state) in
+      subst (λ t. accesses_of program t ≡ []) state_is (untouched state) in
       none_in (accesses_of program race.one) race.access none race.touches
 
   defined : (config : Configuration) → AreKnown name literal config → (reason : Reason) →

@@ -115,9 +115,9 @@ compared (suc a) zero = inr (inr (omega arith))
 compared (suc a) (suc b) = elim (compared a b) [
   | inl h ↦ inl (omega arith)
   | inr h ↦ elim h [
-      | inl g ↦ inr (inl (ap suc g))
-      | inr g ↦ inr (inr (omega arith))
-    ]
+    | inl g ↦ inr (inl (ap suc g))
+    | inr g ↦ inr (inr (omega arith))
+  ]
 ]
 
 -- the least second thread of the least first one, and the least byte
@@ -132,18 +132,18 @@ least_of program config i j at first seconds firsts n race up = record {
   least = λ k l c o other. elim (compared i k) [
     | inl h ↦ inl h
     | inr h ↦ elim h [
-        | inl same ↦ elim (compared j l) [
-            | inl g ↦ inr (same, inl g)
-            | inr g ↦ elim g [
-                | inl also ↦ subst (λ a. IsRaceUpTo i j at.block n a l c o) same
-                    (subst (λ b. IsRaceUpTo i j at.block n i b c o) also
-                    (up c o (subst (λ b. IsRace program config i b c o) (sym also)
-                    (subst (λ a. IsRace program config a l c o) (sym same) other))))
-                | inr before ↦ absurd (seconds l c o before (subst (λ a. IsRace program config a l c o) (sym same) other))
-              ]
-          ]
-        | inr before ↦ absurd (firsts k l c o before other)
+      | inl same ↦ elim (compared j l) [
+        | inl g ↦ inr (same, inl g)
+        | inr g ↦ elim g [
+          | inl also ↦ subst (λ a. IsRaceUpTo i j at.block n a l c o) same
+              (subst (λ b. IsRaceUpTo i j at.block n i b c o) also
+              (up c o (subst (λ b. IsRace program config i b c o) (sym also)
+              (subst (λ a. IsRace program config a l c o) (sym same) other))))
+          | inr before ↦ absurd (seconds l c o before (subst (λ a. IsRace program config a l c o) (sym same) other))
+        ]
       ]
+      | inr before ↦ absurd (firsts k l c o before other)
+    ]
   ];
 }
 
@@ -168,9 +168,9 @@ pub below_more : (Q : ℕ → Type 0) (n : ℕ) → ((k : ℕ) → k < n → Q k
 below_more Q n below here k under = elim (compared k n) [
   | inl h ↦ below k h
   | inr h ↦ elim h [
-      | inl same ↦ subst Q (sym same) here
-      | inr far ↦ absurd (omega arith)
-    ]
+    | inl same ↦ subst Q (sym same) here
+    | inr far ↦ absurd (omega arith)
+  ]
 ]
 
 -- the least byte for which two threads race, from what the code reads

@@ -59,7 +59,7 @@ lifted program i threads memory after_memory before after taken.Finished within 
     finished = finished;
   },
   ap (λ ts. config_of ts after_memory) (append-nil (slice_set threads i after))
-  ∙ unchanged threads i before after memory after_memory read same kept,
+      ∙ unchanged threads i before after memory after_memory read same kept,
 )
 lifted program i threads memory after_memory before after (taken.Undefined ub) within read (stuck, same, kept) = (
   record {
@@ -68,7 +68,7 @@ lifted program i threads memory after_memory before after (taken.Undefined ub) w
     stuck = stuck;
   },
   ap (λ ts. config_of ts after_memory) (append-nil (slice_set threads i after))
-  ∙ unchanged threads i before after memory after_memory read same kept,
+      ∙ unchanged threads i before after memory after_memory read same kept,
 )
 
 -- the same where the configurations and the answer are known by other names

@@ -392,7 +392,7 @@ blocks_keep : (blocks : List ℕ) (memory start : List Block) (block offset : �
 blocks_keep [] memory start block offset lengths free = refl
 blocks_keep (first ∷ blocks) memory start block offset lengths free =
     let here : IsIn memory (Whole first) block offset → ⊥ =
-        λ h. free (inl (refl, (h.0, subst (λ n. offset < n) (lengths block) h.1))) in
+    λ h. free (inl (refl, (h.0, subst (λ n. offset < n) (lengths block) h.1))) in
     blocks_keep blocks (closed memory first) start block offset (λ n. closed_lengths memory first n ∙ lengths n)
     (λ h. free (inr h)) ∙ closed_keeps memory first block offset here
 

@@ -1,5 +1,5 @@
--- What the answer of an operation's function says, where this is its result by the definition (this project's own). Want
--- of memory says nothing.
+-- What the answer of an operation's function says, where this is its result by the definition (this project's own).
+-- Want of memory says nothing.
 use Rattle.std.specs.Prelude.{◌≡◌, List, Option, Result, Ok, Err}
 use Rattle.byte_memory.specs.declared.byte.MByte.{MByte}
 use Rattle.byte_memory.specs.declared.memory.Memory.{Memory}

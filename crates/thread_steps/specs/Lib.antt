@@ -16,5 +16,6 @@ pub mod Run
 pub mod Soundness
 pub mod Start
 pub mod Step
+pub mod TestPrograms
 pub mod Thread
 pub mod Undefined

@@ -183,8 +183,8 @@ cast from to operand = and_then (scalar_value from operand) (λ n. Ok (converted
 abbrev pub alive : Memory → ℕ → Bool
 alive memory block = is_some (bytes_at memory block)
 
--- whether two locations can be compared: a null one always; else both blocks are alive, and are one, or both offsets are
--- below their lengths
+-- whether two locations can be compared: a null one always; else both blocks are alive, and are one, or both offsets
+-- are below their lengths
 abbrev pub can_compare : Memory → Loc → Loc → Bool
 can_compare memory (locations.At block offset) (locations.At other at) =
     alive memory block && alive memory other

@@ -51,7 +51,11 @@ pub fn next_access<'a>(thread: &'a Thread, program: &Program) -> Accesses<'a>
     };
     match find_next(program, top) {
         Some(Next::Operation(_, op)) => {
-            let (first, second) = op_accesses(&program.table, op, top.row.topmost(operand_count(op)));
+            let (first, second) = op_accesses(
+                &program.table,
+                op,
+                top.row.topmost(operand_count(op)),
+            );
             Accesses::Ranges(first, second)
         }
         Some(Next::Ending(_, End::Return)) => Accesses::Closed(top.locals.as_slice()),
@@ -67,10 +71,16 @@ fn op_accesses(table: &Table, op: &Op, operands: &[Value]) -> (Option<Access>, O
     match (op, operands) {
         (Op::Load { layout }, [at]) => (access_to(size_of(*layout, table), false, false, at), None),
         (Op::LoadAtomic, [at]) => (access_to(1, false, true, at), None),
-        (Op::Store { layout }, [at, _]) => (access_to(size_of(*layout, table), true, false, at), None),
+        (Op::Store { layout }, [at, _]) => (
+            access_to(size_of(*layout, table), true, false, at),
+            None,
+        ),
         (Op::StoreAtomic | Op::Exchange, [at, _]) => (access_to(1, true, true, at), None),
         (Op::Cas, [object, expected, _]) => {
-            (access_to(1, true, true, object), access_to(1, true, false, expected))
+            (
+                access_to(1, true, true, object),
+                access_to(1, true, false, expected),
+            )
         }
         _ => (None, None),
     }

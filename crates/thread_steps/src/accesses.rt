@@ -31,7 +31,13 @@ pub(crate) fn load(
 }
 
 /// The bytes of a layout at a location.
-fn load_at(alloc: Global, table: &Table, layout: Layout, at: Loc, memory: &Memory) -> Result<Value, Stop>
+fn load_at(
+    alloc: Global,
+    table: &Table,
+    layout: Layout,
+    at: Loc,
+    memory: &Memory,
+) -> Result<Value, Stop>
     requires { IsKnown table.now layout }
     ensures value { Gives (load_at_result table.now layout at memory.now) result }
     ensures defined { IfOk result (λ _.

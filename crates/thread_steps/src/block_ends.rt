@@ -2,7 +2,8 @@ ghost use Rattle.std.specs.Prelude.{◌≡◌, Ok, IfOk};
 ghost use Rattle.caesium_ir.specs.WellFormed.{IsWellFormedFunction, IsWellFormedResult};
 ghost use Rattle.thread_steps.specs.Step.{step_end, step_if as if_step, step_switch as switch_step};
 ghost use Rattle.thread_steps.specs.Step.{step_return as return_step, label_for as label_of_number, goes_to};
-ghost use Rattle.thread_steps.specs.Step.{handed_on as value_handed_on, condition as condition_on, selector as selector_on};
+ghost use Rattle.thread_steps.specs.Step.{handed_on as value_handed_on};
+ghost use Rattle.thread_steps.specs.Step.{condition as condition_on, selector as selector_on};
 ghost use Rattle.thread_steps.specs.Thread.{returned};
 ghost use Rattle.thread_steps.specs.Answer.{IsAnswerTo};
 
@@ -39,8 +40,20 @@ pub(crate) fn step_ending(
             Ok((Thread::Running { top, callers }, Taken::Stepped(None)))
         }
         End::If { nonzero, zero } => step_if(alloc, nonzero, zero, top, callers, memory),
-        End::Switch { of, cases, otherwise } => {
-            step_switch(alloc, *of, cases.as_slice(), otherwise, top, callers, memory)
+        End::Switch {
+            of,
+            cases,
+            otherwise,
+        } => {
+            step_switch(
+                alloc,
+                *of,
+                cases.as_slice(),
+                otherwise,
+                top,
+                callers,
+                memory,
+            )
         }
         End::Return => step_return(&program.table, function.result, top, callers, memory),
     }

@@ -73,7 +73,13 @@ fn open_blocks(
 {
     let table = &program.table;
     let mut blocks = Items::new(alloc);
-    open_parameters(table, function.parameters.as_slice(), arguments, memory, &mut blocks)?;
+    open_parameters(
+        table,
+        function.parameters.as_slice(),
+        arguments,
+        memory,
+        &mut blocks,
+    )?;
     open_locals(table, function.locals.as_slice(), memory, &mut blocks)?;
     Ok(blocks)
 }
@@ -119,7 +125,8 @@ fn open_parameters(
 fn open_with(size: u32, value: &Value, memory: &mut Memory) -> Result<u64, NoMemory>
     requires { length value.now ≡ size }
     ensures number { IfOk result (λ block. block ≡ length memory.old) }
-    ensures memory { OnOk result (memory.new ≡ stored (opened memory.old size) (At (length memory.old) (pos 0)) value.now) }
+    ensures memory { OnOk result
+        (memory.new ≡ stored (opened memory.old size) (At (length memory.old) (pos 0)) value.now) }
     ensures length { OnOk result (length memory.new ≡ length memory.old + 1) }
 {
     let block = memory.open_block(size)?;

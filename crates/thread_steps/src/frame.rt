@@ -22,7 +22,11 @@ pub struct Frame {
 
 impl Frame {
     /// A call of the function that has done nothing yet, with these blocks for its locals.
-    pub fn entering(alloc: Global, function: Reference, locals: Items<u64>) -> Result<Self, NoMemory>
+    pub fn entering(
+        alloc: Global,
+        function: Reference,
+        locals: Items<u64>,
+    ) -> Result<Self, NoMemory>
         ensures { IfOk result (λ frame. frame ≡ entering_frame function locals) }
     {
         Ok(Frame {
@@ -38,7 +42,11 @@ impl Frame {
     pub fn start(alloc: Global, function: &[u8]) -> Result<Self, NoMemory>
         ensures { IfOk result (λ frame. frame ≡ starting_frame function.now) }
     {
-        Frame::entering(alloc, Reference::new(alloc, function, 0)?, Items::new(alloc))
+        Frame::entering(
+            alloc,
+            Reference::new(alloc, function, 0)?,
+            Items::new(alloc),
+        )
     }
 
     /// Goes on with the block of the label.

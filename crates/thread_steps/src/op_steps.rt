@@ -37,12 +37,14 @@ pub(crate) fn step_operation(
 {
     match op {
         Op::Local { number } => step_local(alloc, *number, top, callers, memory),
-        Op::Call { function, arguments } => {
-            step_call(alloc, program, function, *arguments, top, callers, memory)
-        }
-        Op::Fork { function, arguments } => {
-            step_fork(alloc, program, function, *arguments, top, callers, memory)
-        }
+        Op::Call {
+            function,
+            arguments,
+        } => { step_call(alloc, program, function, *arguments, top, callers, memory) }
+        Op::Fork {
+            function,
+            arguments,
+        } => { step_fork(alloc, program, function, *arguments, top, callers, memory) }
         _ => step_plain(alloc, &program.table, op, top, callers, memory),
     }
 }
@@ -121,7 +123,13 @@ fn step_call(
         Ok(callee) => {
             top.operate(count, None)?;
             callers.push(top)?;
-            Ok((Thread::Running { top: callee, callers }, Taken::Stepped(None)))
+            Ok((
+                Thread::Running {
+                    top: callee,
+                    callers,
+                },
+                Taken::Stepped(None),
+            ))
         }
         Err(Stop::Undefined(ub)) => Ok(stuck(ub, top, callers)),
         Err(Stop::NoMemory) => Err(NoMemory),
@@ -153,7 +161,10 @@ fn step_fork(
                 top: first,
                 callers: Stack::new(alloc),
             };
-            Ok((Thread::Running { top, callers }, Taken::Stepped(Some(started))))
+            Ok((
+                Thread::Running { top, callers },
+                Taken::Stepped(Some(started)),
+            ))
         }
         Err(Stop::Undefined(ub)) => Ok(stuck(ub, top, callers)),
         Err(Stop::NoMemory) => Err(NoMemory),

@@ -105,7 +105,13 @@ pub(crate) fn same_location(one: Loc, other: Loc) -> bool
 {
     match (one, other) {
         (Loc::Null, Loc::Null) => true,
-        (Loc::At { block, offset }, Loc::At { block: of, offset: at }) => block == of && offset == at,
+        (
+            Loc::At { block, offset },
+            Loc::At {
+                block: of,
+                offset: at,
+            },
+        ) => block == of && offset == at,
         _ => false,
     }
 }
@@ -115,10 +121,17 @@ pub(crate) fn can_compare(memory: &Memory, one: Loc, other: Loc) -> bool
     ensures { result ≡ comparable memory.now one other }
 {
     match (one, other) {
-        (Loc::At { block, offset }, Loc::At { block: of, offset: at }) => {
+        (
+            Loc::At { block, offset },
+            Loc::At {
+                block: of,
+                offset: at,
+            },
+        ) => {
             memory.is_alive(block)
                 && memory.is_alive(of)
-                && (block == of || (is_before_end(memory, block, offset) && is_before_end(memory, of, at)))
+                && (block == of
+                    || (is_before_end(memory, block, offset) && is_before_end(memory, of, at)))
         }
         _ => true,
     }

@@ -18,7 +18,8 @@ pub fn operand_count(op: &Op) -> usize
     ensures { result ≡ count_of op.now }
 {
     match op {
-        Op::Const { .. } | Op::ConstBool { .. } | Op::Null | Op::Poison { .. } | Op::Local { .. } => 0,
+        Op::Const { .. } | Op::ConstBool { .. } | Op::Null | Op::Poison { .. } | Op::Local { .. } =>
+            0,
         Op::Field { .. } | Op::Load { .. } | Op::LoadAtomic | Op::Drop => 1,
         Op::Neg { .. } | Op::Compl { .. } | Op::Cast { .. } => 1,
         Op::Index { .. } | Op::Store { .. } | Op::StoreAtomic | Op::Binary { .. } => 2,
@@ -45,7 +46,9 @@ pub fn operate(
         [] => constant(alloc, table, op, memory),
         [operand] => on_one(alloc, table, op, operand, memory),
         [left, right] => on_two(alloc, table, op, left, right, memory),
-        [object, expected, desired] => on_three(alloc, table, op, object, expected, desired, memory),
+        [object, expected, desired] => on_three(
+            alloc, table, op, object, expected, desired, memory,
+        ),
         _ => Err(Stop::Undefined(Ub::PoisonUsed)),
     }
 }
@@ -109,9 +112,7 @@ fn on_two(
         Op::PtrEq => Ok(Some(pointers_equal(alloc, left, right, memory)?)),
         Op::PtrNe => Ok(Some(pointers_differ(alloc, left, right, memory)?)),
         Op::Index { size, of } => Ok(Some(index(alloc, *size, *of, left, right, memory)?)),
-        Op::Binary { operator, of } => {
-            Ok(Some(binary(alloc, *operator, *of, left, right)?))
-        }
+        Op::Binary { operator, of } => { Ok(Some(binary(alloc, *operator, *of, left, right)?)) }
         Op::Shl { of, amount } => Ok(Some(shifted_left(alloc, *of, *amount, left, right)?)),
         Op::Shr { of, amount } => Ok(Some(shifted_right(alloc, *of, *amount, left, right)?)),
         _ => Err(Stop::Undefined(Ub::PoisonUsed)),

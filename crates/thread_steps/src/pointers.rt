@@ -1,6 +1,7 @@
 ghost use Rattle.std.specs.Prelude.{◌≡◌};
 ghost use Rattle.caesium_ir.specs.WellFormed.{HasMember};
-ghost use Rattle.thread_steps.specs.Operations.{field as field_result, index as index_result, member_offset as offset_of};
+ghost use Rattle.thread_steps.specs.Operations.{field as field_result, index as index_result};
+ghost use Rattle.thread_steps.specs.Operations.{member_offset as offset_of};
 ghost use Rattle.thread_steps.specs.Operations.{same_pointers as are_same, pointers_equal as equal_result};
 ghost use Rattle.thread_steps.specs.Operations.{pointers_differ as differ_result};
 ghost use Rattle.thread_steps.specs.Gives.{Gives};

@@ -4,7 +4,8 @@ ghost use Rattle.thread_steps.specs.Access.{accesses_of};
 ghost use Rattle.thread_steps.specs.Accesses.{listed, one_or_none};
 ghost use Rattle.thread_steps.specs.Race.{IsRaceAnswer, IsRace};
 ghost use Rattle.thread_steps.specs.FindRace.{from_zero as natural_part, interval as interval_of};
-ghost use Rattle.thread_steps.specs.FindRace.{common as common_of, conflict as conflicting, is_before as before, earlier as earlier_of};
+ghost use Rattle.thread_steps.specs.FindRace.{common as common_of, conflict as conflicting};
+ghost use Rattle.thread_steps.specs.FindRace.{is_before as before, earlier as earlier_of};
 ghost use Rattle.thread_steps.specs.FindRace.{IsLeastSecond};
 ghost use Rattle.thread_steps.specs.FindRace.{IsLeast, Meet, MeetsOne};
 ghost use Rattle.std.specs.Prelude.{map};
@@ -87,7 +88,11 @@ fn shared_byte(one: &Thread, other: &Thread, memory: &Memory, program: &Program)
     requires { IsWellFormed program.now }
     ensures { IsLeast (Meet memory.now (accesses_of program.now one.now) (accesses_of program.now other.now)) result }
 {
-    least_of(memory, next_access(one, program), next_access(other, program))
+    least_of(
+        memory,
+        next_access(one, program),
+        next_access(other, program),
+    )
 }
 
 /// The least byte for which two lists of accesses conflict.
@@ -96,7 +101,10 @@ fn least_of(memory: &Memory, ones: Accesses<'_>, others: Accesses<'_>) -> Option
 {
     match ones {
         Accesses::Ranges(first, second) => {
-            earlier(least_at(memory, first, others), least_at(memory, second, others))
+            earlier(
+                least_at(memory, first, others),
+                least_at(memory, second, others),
+            )
         }
         Accesses::Closed(blocks) => least_closed(memory, blocks, others),
     }
@@ -140,7 +148,10 @@ fn least_with(memory: &Memory, one: Access, others: Accesses<'_>) -> Option<Byte
 {
     match others {
         Accesses::Ranges(first, second) => {
-            earlier(common_at(memory, one, first), common_at(memory, one, second))
+            earlier(
+                common_at(memory, one, first),
+                common_at(memory, one, second),
+            )
         }
         Accesses::Closed(blocks) => common_closed(memory, one, blocks),
     }
@@ -203,7 +214,10 @@ fn touched_interval(memory: &Memory, bytes: Touched) -> Interval
     ensures low { result.low < 2 ^ 127 }
 {
     match bytes {
-        Touched::Range { at: Loc::Null, size: _ } => Interval {
+        Touched::Range {
+            at: Loc::Null,
+            size: _,
+        } => Interval {
             block: 0,
             low: 0,
             high: 0,

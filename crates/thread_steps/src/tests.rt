@@ -1,8 +1,10 @@
 ghost use Rattle.std.specs.Prelude.{◌≡◌, IfOk, IfSome};
 ghost use Rattle.caesium_ir.specs.WellFormed.{IsWellFormed};
 
+mod call_rows;
 mod memory_rows;
 mod operation_rows;
+mod race_rows;
 
 use super::*;
 use byte_memory::{MByte, Memory, Value};

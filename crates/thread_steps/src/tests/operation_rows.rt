@@ -71,14 +71,27 @@ fn expect_number(
     let op = Op::Binary { operator, of: t };
     let operands = pair(alloc, t, a, b)?;
     let expected = Value::of_int(alloc, expected.0, expected.1)?;
-    expect_value(rt, alloc, &mut Memory::new(alloc), &op, &operands, &expected)
+    expect_value(
+        rt,
+        alloc,
+        &mut Memory::new(alloc),
+        &op,
+        &operands,
+        &expected,
+    )
 }
 
 #[test]
 fn operators(rt: HostRuntime) -> Result<(), Fail> {
     let int = IntType::Int;
     let rows = [
-        (BinaryOperator::Add, IntType::UChar, 255, 1, (IntType::UChar, 0)),
+        (
+            BinaryOperator::Add,
+            IntType::UChar,
+            255,
+            1,
+            (IntType::UChar, 0),
+        ),
         (BinaryOperator::Sub, int, 3, 5, (int, -2)),
         (BinaryOperator::Mul, int, -3, 5, (int, -15)),
         (BinaryOperator::Div, int, -7, 2, (int, -3)),
@@ -108,9 +121,19 @@ fn expect_no_number(
     b: i128,
     ub: OpUb,
 ) -> Result<(), Fail> {
-    let op = Op::Binary { operator, of: IntType::Int };
+    let op = Op::Binary {
+        operator,
+        of: IntType::Int,
+    };
     let operands = pair(alloc, IntType::Int, a, b)?;
-    expect_undefined(rt, alloc, &mut Memory::new(alloc), &op, &operands, Ub::Arithmetic(ub))
+    expect_undefined(
+        rt,
+        alloc,
+        &mut Memory::new(alloc),
+        &op,
+        &operands,
+        Ub::Arithmetic(ub),
+    )
 }
 
 #[test]
@@ -134,7 +157,10 @@ fn undefined_operators(rt: HostRuntime) -> Result<(), Fail> {
 #[test]
 fn operands_that_are_no_numbers(rt: HostRuntime) -> Result<(), Fail> {
     let alloc = rt.alloc();
-    let op = Op::Binary { operator: BinaryOperator::Div, of: IntType::Int };
+    let op = Op::Binary {
+        operator: BinaryOperator::Div,
+        of: IntType::Int,
+    };
     let mut memory = Memory::new(alloc);
     expect_undefined(&rt, alloc, &mut memory, &op, &[], Ub::PoisonUsed)?;
     let mut poisoned = Vec::new(alloc);
@@ -145,31 +171,65 @@ fn operands_that_are_no_numbers(rt: HostRuntime) -> Result<(), Fail> {
     expect_undefined(&rt, alloc, &mut memory, &op, &long, Ub::PoisonUsed)
 }
 
-fn expect_shift(rt: &impl Abort, alloc: Global, op: Op, a: i128, amount: i128, shifted: i128) -> Result<(), Fail>
+fn expect_shift(
+    rt: &impl Abort,
+    alloc: Global,
+    op: Op,
+    a: i128,
+    amount: i128,
+    shifted: i128,
+) -> Result<(), Fail>
     requires { IsOfTable [] op }
 {
     let operands = pair(alloc, IntType::Int, a, amount)?;
     let expected = Value::of_int(alloc, IntType::Int, shifted)?;
-    expect_value(rt, alloc, &mut Memory::new(alloc), &op, &operands, &expected)
+    expect_value(
+        rt,
+        alloc,
+        &mut Memory::new(alloc),
+        &op,
+        &operands,
+        &expected,
+    )
 }
 
-fn expect_no_shift(rt: &impl Abort, alloc: Global, op: Op, a: i128, amount: i128, ub: OpUb) -> Result<(), Fail>
+fn expect_no_shift(
+    rt: &impl Abort,
+    alloc: Global,
+    op: Op,
+    a: i128,
+    amount: i128,
+    ub: OpUb,
+) -> Result<(), Fail>
     requires { IsOfTable [] op }
 {
     let operands = pair(alloc, IntType::Int, a, amount)?;
-    expect_undefined(rt, alloc, &mut Memory::new(alloc), &op, &operands, Ub::Arithmetic(ub))
+    expect_undefined(
+        rt,
+        alloc,
+        &mut Memory::new(alloc),
+        &op,
+        &operands,
+        Ub::Arithmetic(ub),
+    )
 }
 
 fn shl() -> Op
     ensures { IsOfTable [] result }
 {
-    Op::Shl { of: IntType::Int, amount: IntType::Int }
+    Op::Shl {
+        of: IntType::Int,
+        amount: IntType::Int,
+    }
 }
 
 fn shr() -> Op
     ensures { IsOfTable [] result }
 {
-    Op::Shr { of: IntType::Int, amount: IntType::Int }
+    Op::Shr {
+        of: IntType::Int,
+        amount: IntType::Int,
+    }
 }
 
 #[test]
@@ -184,12 +244,25 @@ fn shifts(rt: HostRuntime) -> Result<(), Fail> {
 }
 
 /// An operation on one operand.
-fn expect_one(rt: &impl Abort, alloc: Global, op: Op, operand: Value, expected: Value) -> Result<(), Fail>
+fn expect_one(
+    rt: &impl Abort,
+    alloc: Global,
+    op: Op,
+    operand: Value,
+    expected: Value,
+) -> Result<(), Fail>
     requires { IsOfTable [] op }
 {
     let mut operands = Vec::new(alloc);
     operands.push(operand)?;
-    expect_value(rt, alloc, &mut Memory::new(alloc), &op, &operands, &expected)
+    expect_value(
+        rt,
+        alloc,
+        &mut Memory::new(alloc),
+        &op,
+        &operands,
+        &expected,
+    )
 }
 
 fn expect_no_one(rt: &impl Abort, alloc: Global, op: Op, operand: Value, ub: Ub) -> Result<(), Fail>
@@ -208,10 +281,34 @@ fn int(alloc: Global, n: i128) -> Result<Value, NoMemory> {
 fn operators_on_one_number(rt: HostRuntime) -> Result<(), Fail> {
     let alloc = rt.alloc();
     let overflow = Ub::Arithmetic(OpUb::Overflow);
-    expect_one(&rt, alloc, Op::Neg { of: IntType::Int }, int(alloc, 5)?, int(alloc, -5)?)?;
-    expect_one(&rt, alloc, Op::Compl { of: IntType::Int }, int(alloc, 0)?, int(alloc, -1)?)?;
-    expect_no_one(&rt, alloc, Op::Neg { of: IntType::Int }, int(alloc, -2147483648)?, overflow)?;
-    expect_no_one(&rt, alloc, Op::Compl { of: IntType::Int }, Value::poison(alloc, 4)?, Ub::PoisonUsed)
+    expect_one(
+        &rt,
+        alloc,
+        Op::Neg { of: IntType::Int },
+        int(alloc, 5)?,
+        int(alloc, -5)?,
+    )?;
+    expect_one(
+        &rt,
+        alloc,
+        Op::Compl { of: IntType::Int },
+        int(alloc, 0)?,
+        int(alloc, -1)?,
+    )?;
+    expect_no_one(
+        &rt,
+        alloc,
+        Op::Neg { of: IntType::Int },
+        int(alloc, -2147483648)?,
+        overflow,
+    )?;
+    expect_no_one(
+        &rt,
+        alloc,
+        Op::Compl { of: IntType::Int },
+        Value::poison(alloc, 4)?,
+        Ub::PoisonUsed,
+    )
 }
 
 fn cast(from: Scalar, to: Scalar) -> Op
@@ -228,27 +325,62 @@ fn casts(rt: HostRuntime) -> Result<(), Fail> {
     let narrow = cast(Scalar::Int(IntType::Int), Scalar::Int(IntType::SChar));
     let least = Value::of_int(alloc, IntType::SChar, -56)?;
     expect_one(&rt, alloc, narrow, int(alloc, 200)?, least)?;
-    expect_one(&rt, alloc, to_bool, int(alloc, 256)?, Value::of_bool(alloc, true)?)?;
+    expect_one(
+        &rt,
+        alloc,
+        to_bool,
+        int(alloc, 256)?,
+        Value::of_bool(alloc, true)?,
+    )?;
     let two = Value::of_int(alloc, IntType::UChar, 2)?;
     expect_no_one(&rt, alloc, to_int, two, Ub::BadBool)?;
     let from_bool = cast(Scalar::Bool, Scalar::Int(IntType::Int));
-    expect_one(&rt, alloc, from_bool, Value::of_bool(alloc, true)?, int(alloc, 1)?)?;
+    expect_one(
+        &rt,
+        alloc,
+        from_bool,
+        Value::of_bool(alloc, true)?,
+        int(alloc, 1)?,
+    )?;
     let from_poison = cast(Scalar::Bool, Scalar::Bool);
-    expect_no_one(&rt, alloc, from_poison, Value::poison(alloc, 1)?, Ub::PoisonUsed)
+    expect_no_one(
+        &rt,
+        alloc,
+        from_poison,
+        Value::poison(alloc, 1)?,
+        Ub::PoisonUsed,
+    )
 }
 
 #[test]
 fn constants(rt: HostRuntime) -> Result<(), Fail> {
     let alloc = rt.alloc();
     let mut memory = Memory::new(alloc);
-    let seven = Op::Const { of: IntType::Int, value: 7 };
+    let seven = Op::Const {
+        of: IntType::Int,
+        value: 7,
+    };
     expect_value(&rt, alloc, &mut memory, &seven, &[], &int(alloc, 7)?)?;
     let yes = Op::ConstBool { value: true };
-    expect_value(&rt, alloc, &mut memory, &yes, &[], &Value::of_bool(alloc, true)?)?;
+    expect_value(
+        &rt,
+        alloc,
+        &mut memory,
+        &yes,
+        &[],
+        &Value::of_bool(alloc, true)?,
+    )?;
     let null = Value::of_pointer(alloc, Loc::Null)?;
     expect_value(&rt, alloc, &mut memory, &Op::Null, &[], &null)?;
     let poison = Op::Poison { size: 3 };
-    expect_value(&rt, alloc, &mut memory, &poison, &[], &Value::poison(alloc, 3)?)?;
+    expect_value(
+        &rt,
+        alloc,
+        &mut memory,
+        &poison,
+        &[],
+        &Value::poison(alloc, 3)?,
+    )?;
     assert!(rt; memory.is_empty());
     Ok(())
 }

@@ -14,5 +14,9 @@ pub returns : goal.returns
 returns c =
     let from : FitsSigned w128 c.from.result = search rules in
     let fits = moves_fit c.args.t c.args.size c.args.count (omega arith) c.requires in
-    rw (to_z-of_z w128 c.from.result from, to_z-of_z w128 c.args.count c.ranges.count, c.from.ensures,
-    to_z-of_z w128 (pos c.args.size *ℤ c.args.count) fits)
+    rw (
+      to_z-of_z w128 c.from.result from,
+      to_z-of_z w128 c.args.count c.ranges.count,
+      c.from.ensures,
+      to_z-of_z w128 (pos c.args.size *ℤ c.args.count) fits,
+    )

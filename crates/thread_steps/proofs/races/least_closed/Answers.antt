@@ -11,7 +11,7 @@ loop-block-preserved c =
     let others = listed c.args.others in
     let more = closed_more c.args.blocks.now c.loop-block.block-index c.loop-block-test.true in
     let found = subst (λ a. IsLeast (MeetsOne memory a others) c.least_with.result) c.closing.ensures
-        c.least_with.ensures in
+    c.least_with.ensures in
     all_more memory _ _ _ others c.loop-block.least c.least_with.result c.earlier-least.result more
     c.loop-block.invariant found c.earlier-least.ensures
 

@@ -11,6 +11,6 @@ returns-in-Ranges c =
     let first = one_or_none c.in-Ranges.first in
     let second = one_or_none c.in-Ranges.second in
     let joined = all_least_joined memory first second others c.least_at.result c.least_at-in-Ranges.result
-        c.least_at.ensures c.least_at-in-Ranges.ensures in
+    c.least_at.ensures c.least_at-in-Ranges.ensures in
     subst (λ a. IsLeast (Meet memory (listed a) others) c.earlier.result) (sym c.in-Ranges.is)
     (subst (λ x. IsLeast (Meet memory (first ++ second) others) x) (sym c.earlier.ensures) joined)

@@ -10,6 +10,6 @@ returns-in-Ranges c =
     let first = one_or_none c.in-Ranges.first in
     let second = one_or_none c.in-Ranges.second in
     let joined = one_least_joined memory c.args.one first second c.common_at.result c.common_at-in-Ranges.result
-        c.common_at.ensures c.common_at-in-Ranges.ensures in
+    c.common_at.ensures c.common_at-in-Ranges.ensures in
     subst (λ a. IsLeast (MeetsOne memory c.args.one (listed a)) c.earlier.result) (sym c.in-Ranges.is)
     (subst (λ x. IsLeast (MeetsOne memory c.args.one (first ++ second)) x) (sym c.earlier.ensures) joined)
