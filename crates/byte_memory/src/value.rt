@@ -116,7 +116,8 @@ impl Value {
 
     /// The number of the type that the bytes are; none where one isn't plain, or they aren't as many as the type has.
     pub fn to_int(&self, t: IntType) -> Option<i128>
-        ensures { result ≡ int_of t self.now }
+        ensures value { result ≡ int_of t self.now }
+        ensures in_range { IfSome result (IsInRange t) }
     {
         if self.bytes.len() != size_of_int(t) as usize {
             return None;
@@ -194,12 +195,13 @@ fn natural(bytes: &[MByte]) -> Option<u64>
     Some(u64::from(low) + 256 * upper)
 }
 
-ghost use Rattle.layouts.specs.IntType.{int_bytes_of};
+ghost use Rattle.layouts.specs.IntType.{int_bytes_of, IsInRange};
 
 /// The number of the type that has the bytes of this one without sign.
 fn number_of_natural(t: IntType, natural: u64) -> i128
     requires { natural < 256 ^ int_bytes_of t }
-    ensures { result ≡ number_from t natural }
+    ensures value { result ≡ number_from t natural }
+    ensures in_range { IsInRange t result }
 {
     let number = i128::from(natural);
     match t {

@@ -42,6 +42,8 @@ abbrev pub literal_function : List ℕ → ℕ → LiteralPlaces → Function
 literal_function name literal places = record {
   name = name;
   result = Some (layouts.Int int_types.Int);
+  parameters = [];
+  locals = [];
   blocks = literal_blocks literal places;
   place = places.name;
 }

@@ -9,10 +9,12 @@ mod literal;
 mod literal_places;
 mod operation;
 mod program;
+mod reference;
 
-pub use block::{Block, End};
-pub use function::Function;
+pub use block::{Block, Case, End};
+pub use function::{Function, Local};
 pub use literal::one_literal;
 pub use literal_places::LiteralPlaces;
-pub use operation::{Op, PlacedOp};
+pub use operation::{BinaryOperator, Op, PlacedOp, Scalar};
 pub use program::Program;
+pub use reference::Reference;

@@ -7,6 +7,7 @@ use crate::function::Function;
 use crate::literal_places::LiteralPlaces;
 use crate::operation::{Op, PlacedOp};
 use crate::program::Program;
+use crate::reference::Reference;
 use layouts::{IntType, Layout, Table};
 use rc_text::{Bytes, NoMemory, Place};
 use sqlite_items::Items;
@@ -47,6 +48,8 @@ fn new_function(
     Ok(Function {
         name: Bytes::from_slice(alloc, name)?,
         result: Some(Layout::Int(IntType::Int)),
+        parameters: Items::new(alloc),
+        locals: Items::new(alloc),
         blocks,
         place: places.name,
     })
@@ -58,7 +61,7 @@ fn new_entry(alloc: Global, body: Place) -> Result<Block, NoMemory>
     Ok(Block {
         label: Bytes::from_slice(alloc, b".")?,
         operations: Items::new(alloc),
-        end: End::Goto(Bytes::from_slice(alloc, b".0")?),
+        end: End::Goto(Reference::new(alloc, b".0", 1)?),
         end_place: body,
     })
 }
@@ -133,14 +136,34 @@ mod tests {
         column: 10,
     };
 
-    fn expect_block(rt: &impl Abort, block: &Block, label: &[u8], ops: &[(Op, Place)], end: Place) {
+    fn expect_block(rt: &impl Abort, block: &Block, label: &[u8], places: &[Place], end: Place) {
         assert!(rt; block.label.as_slice() == label);
-        assert_eq!(rt; block.operations.len(), ops.len());
-        for (placed, (op, place)) in block.operations.as_slice().iter().zip(ops) {
-            assert_eq!(rt; &placed.op, op);
+        assert_eq!(rt; block.operations.len(), places.len());
+        for (placed, place) in block.operations.as_slice().iter().zip(places) {
             assert_eq!(rt; placed.place, *place);
         }
         assert_eq!(rt; block.end_place, end);
+    }
+
+    fn expect_block_of(
+        rt: &impl Abort,
+        alloc: Global,
+        program: &Program,
+        label: &[u8],
+        number: usize,
+        expected: bool,
+    ) -> Result<(), Fail>
+        requires { IsWellFormed program.now }
+    {
+        let name = Reference::new(alloc, b"seven", number)?;
+        let function = program.function(&name).ok_or("no function")?;
+        let reference = Reference::new(alloc, label, number)?;
+        let found = function.block(&reference);
+        assert_eq!(rt; found.is_some(), expected);
+        if let Some(block) = found {
+            assert!(rt; block.label.as_slice() == label);
+        }
+        Ok(())
     }
 
     #[test]
@@ -151,33 +174,27 @@ mod tests {
             return_: RETURN,
             literal: LITERAL,
         };
-        let program = one_literal(rt.alloc(), b"seven", 7, places)?;
+        let alloc = rt.alloc();
+        let program = one_literal(alloc, b"seven", 7, places)?;
         assert_eq!(rt; program.functions.len(), 1);
-        assert!(rt; program.function(b"eight").is_none());
-        let function = program.function(b"seven").ok_or("no function")?;
+        let eight = Reference::new(alloc, b"eight", 0)?;
+        assert!(rt; program.function(&eight).is_none());
+        let seven = Reference::new(alloc, b"seven", 0)?;
+        let function = program.function(&seven).ok_or("no function")?;
         assert_eq!(rt; function.result, Some(Layout::Int(IntType::Int)));
         assert_eq!(rt; function.place, NAME);
 
         let blocks = function.blocks.as_slice();
         assert_eq!(rt; blocks.len(), 3);
         expect_block(&rt, &blocks[0], b".", &[], BODY);
-        let seven = Op::Const {
-            of: IntType::Int,
-            value: 7,
-        };
-        expect_block(&rt, &blocks[1], b".0", &[(seven, LITERAL)], RETURN);
-        let poison = Op::Poison { size: 4 };
-        expect_block(&rt, &blocks[2], b".end", &[(poison, BODY)], BODY);
-
-        match &blocks[0].end {
-            End::Goto(label) => assert!(rt; label.as_slice() == b".0".as_slice()),
-            End::Return => assert!(rt; false),
-        }
+        expect_block(&rt, &blocks[1], b".0", &[LITERAL], RETURN);
+        expect_block(&rt, &blocks[2], b".end", &[BODY], BODY);
         assert!(rt; matches!(&blocks[1].end, End::Return));
         assert!(rt; matches!(&blocks[2].end, End::Return));
-        assert!(rt; function.block(b".1").is_none());
-        let ending = function.block(b".end").ok_or("no block")?;
-        assert_eq!(rt; ending.operations.len(), 1);
+        for number in [0, 1, 2, 9] {
+            expect_block_of(&rt, alloc, &program, b".end", number, true)?;
+            expect_block_of(&rt, alloc, &program, b".1", number, false)?;
+        }
         Ok(())
     }
 }

@@ -1,8 +1,11 @@
-ghost use Rattle.std.specs.Prelude.{◌≡◌};
+ghost use Rattle.std.specs.Prelude.{◌≡◌, IsTrue};
 ghost use Rattle.std.specs.Option.{option_copied};
 ghost use Rattle.caesium_ir.specs.Function.{function_named};
+ghost use Rattle.caesium_ir.specs.Program.{names_of};
+ghost use Rattle.caesium_ir.specs.Names.{are_distinct};
 
 use crate::function::Function;
+use crate::reference::Reference;
 use layouts::Table;
 use sqlite_items::Items;
 
@@ -14,11 +17,15 @@ pub struct Program {
 }
 
 impl Program {
-    /// The first function of the name.
-    pub fn function(&self, name: &[u8]) -> Option<&Function>
+    /// The function of the name, found at once where it has the reference's number.
+    pub fn function(&self, name: &Reference) -> Option<&Function>
+        requires { IsTrue (are_distinct (names_of self.now)) }
         ensures { option_copied result ≡ function_named self.now.functions name.now }
     {
-        first_named(self.functions.as_slice(), name)
+        match self.functions.get(name.number()) {
+            Some(function) if function.name.as_slice() == name.name() => Some(function),
+            _ => first_named(self.functions.as_slice(), name.name()),
+        }
     }
 }
 

@@ -1,6 +1,14 @@
-pub mod Accesses
+pub mod Blocks
+pub mod Bytes
+pub mod Found
+pub mod Fragments
+pub mod Least
 pub mod LiteralThreads
-pub mod NextFunctions
+pub mod Members
+pub mod Numbers
 pub mod Outcomes
+pub mod RaceLemmas
 pub mod Stacks
+pub mod TestLemmas
 pub mod Threads
+pub mod Writes

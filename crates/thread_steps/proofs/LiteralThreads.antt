@@ -1,7 +1,7 @@
 -- The threads of a one-literal program: each is in one of four states, whatever order the steps come in.
 use Rattle.std.proofs.Common.{◌≡◌, ℕ, zero, suc, Bool, true, inl, inr, List, [], ◌∷◌, ◌++◌, length, refl, ap}
-use Rattle.std.proofs.Common.{◌∙◌, pos, sym, subst}
-use Rattle.std.specs.Prelude.{codes, ◌==◌, Option, Some, None, Result, Ok, Err, if◌then◌else◌, option_and_then}
+use Rattle.std.proofs.Common.{◌∙◌, ◌<◌, pos, sym, subst, arith}
+use Rattle.std.specs.Prelude.{codes, ◌==◌, Option, Some, None, Result, Ok, Err, if◌then◌else◌, option_and_then, Contains}
 use Rattle.std.specs.Prelude.{slice_get, slice_set}
 use Rattle.std.specs.List.{AllByRecursion}
 use Rattle.std.specs.Str.{bytes_eq}
@@ -20,7 +20,7 @@ use Rattle.thread_steps.specs.declared.answer.Ub.TheVariants.{PoisonUsed}
 use Rattle.thread_steps.specs.declared.frame.Frame.{Frame}
 use Rattle.thread_steps.specs.declared.thread.Thread.{Thread}
 use Rattle.thread_steps.specs.declared.thread.Thread.TheVariants.{Running, Finished}
-use Rattle.thread_steps.specs.Next.{next_in_function}
+use Rattle.thread_steps.specs.Next.{next_of, next_in_function}
 use Rattle.thread_steps.specs.Step.{After, becomes, step_next, step_of, Step}
 use Rattle.thread_steps.specs.Thread.{starting_thread, returned}
 use Rattle.thread_steps.specs.Configuration.{Configuration, StepsTo, starting}
@@ -29,7 +29,9 @@ use Rattle.thread_steps.specs.Run.{Run}
 use Rattle.thread_steps.specs.Start.{Start, functions_of}
 use Rattle.thread_steps.specs.LiteralStart.{IsLiteralStart}
 use Rattle.thread_steps.specs.Soundness.{IsSound, AreSound}
-use Rattle.thread_steps.proofs.Accesses.{no_race}
+use Rattle.thread_steps.specs.Operands.{and_then}
+use Rattle.thread_steps.specs.Access.{next_accesses, accesses_of}
+use Rattle.thread_steps.specs.Race.{IsRace}
 use Rattle.thread_steps.proofs.Threads.{get_of_set}
 
 -- at the block `.`, at the constant, at the return, and finished
@@ -41,7 +43,8 @@ pub data State : Type 0 where
 
 -- the one frame of a thread that is not finished
 abbrev pub frame_at : List ℕ → List ℕ → ℕ → List (List MByte) → Frame
-frame_at name label operation row = record { function = name; label = label; operation = operation; row = row }
+frame_at name label operation row =
+    record { function = name; label = label; operation = operation; locals = []; row = row }
 
 -- the thread in each state
 abbrev pub thread_at : List ℕ → ℕ → State → Thread
@@ -73,6 +76,12 @@ left_by r known after is found = cc
 never_both : {A E : Type 0} (r : Result A E) (known : A) (e : E) → r ≡ Ok known → r ≡ Err e → ⊥
 never_both r known e is found = cc
 
+none_in : {X : Type 0} (xs : List X) (x : X) → xs ≡ [] → Contains xs x → ⊥
+none_in xs x e h =
+    let among : Contains [] x = subst (λ ys. Contains ys x) e h in
+    let below : among.0 < 0 = among.1 in
+    omega arith
+
 -- the starts that answer the literal, one by one
 start_at : (name : List ℕ) (literal : ℕ) (starts : List Start) (i : ℕ) (start : Start) →
     AllByRecursion (IsLiteralStart name literal) starts → slice_get starts i ≡ Some start →
@@ -92,13 +101,19 @@ module _ (name : List ℕ) (literal : ℕ) (places : LiteralPlaces) where
   value = enc Int (pos literal)
 
   -- a frame of the function finds it
-  step_is : (label : List ℕ) (operation : ℕ) (row : List (List MByte)) (memory : Memory) →
-      let frame = frame_at name label operation row in
-      step_of program frame [] memory ≡ step_next [] (next_in_function frame function) frame [] memory
-  step_is label operation row memory =
+  next_is : (label : List ℕ) (operation : ℕ) (row : List (List MByte)) →
+      let frame = frame_at name label operation row in next_of program frame ≡ next_in_function frame function
+  next_is label operation row =
       let frame = frame_at name label operation row in
       let next_if = λ (same : Bool). option_and_then (next_in_function frame) (if same then Some function else None) in
-      ap (λ same. step_next [] (next_if same) frame [] memory) (bytes_eq-same name)
+      ap next_if (bytes_eq-same name)
+
+  step_is : (label : List ℕ) (operation : ℕ) (row : List (List MByte)) (memory : Memory) →
+      let frame = frame_at name label operation row in
+      step_of program frame [] memory ≡ step_next program (next_in_function frame function) frame [] memory
+  step_is label operation row memory =
+      let frame = frame_at name label operation row in
+      ap (λ next. step_next program next frame [] memory) (next_is label operation row)
 
   begun : (memory : Memory) →
       step_of program (frame_at name (codes ".") 0 []) [] memory ≡ Ok (becomes (thread_at name literal Inside) memory)
@@ -113,7 +128,8 @@ module _ (name : List ℕ) (literal : ℕ) (places : LiteralPlaces) where
       step_of program (frame_at name (codes ".0") 1 (value ∷ [])) [] memory
       ≡ Ok (becomes (thread_at name literal Done) memory)
   loaded memory =
-      let left_if = λ (n : ℕ). if n == 4 then Ok (becomes (returned (Some value) []) memory) else Err PoisonUsed in
+      let sized_if = λ (n : ℕ). and_then (if n == 4 then Ok value else Err PoisonUsed) (λ found. Ok (Some found)) in
+      let left_if = λ (n : ℕ). and_then (sized_if n) (λ found. Ok (becomes (returned found []) memory)) in
       step_is (codes ".0") 1 (value ∷ []) memory ∙ ap left_if (length-enc literal)
 
   -- each step leads to a known thread, and starts none
@@ -174,10 +190,31 @@ module _ (name : List ℕ) (literal : ℕ) (places : LiteralPlaces) where
       let of_state = subst (λ t. IsStuck program t config.memory ub) (sym state_is) stuck.stuck in
       goes_on state config.memory ub of_state
 
+  -- no state touches memory, so no two of them race
+  untouched : (state : State) → accesses_of program (thread_at name literal state) ≡ []
+  untouched Begun =
+      let frame = frame_at name (codes ".") 0 [] in
+      ap (λ next. next_accesses [] next frame) (next_is (codes ".") 0 [])
+  untouched Inside =
+      let frame = frame_at name (codes ".0") 0 [] in
+      ap (λ next. next_accesses [] next frame) (next_is (codes ".0") 0 [])
+  untouched Loaded =
+      let frame = frame_at name (codes ".0") 1 (value ∷ []) in
+      ap (λ next. next_accesses [] next frame) (next_is (codes ".0") 1 (value ∷ []))
+  untouched Done = refl
+
+  no_race : (config : Configuration) → AreKnown name literal config → (i j block offset : ℕ) →
+      IsRace program config i j block offset → ⊥
+  no_race config known i j block offset race =
+      let (state, state_is) = known i race.one race.one_is in
+      let none : accesses_of program race.one ≡ [] =
+      subst (λ t. accesses_of program t ≡ []) state_is (untouched state) in
+      none_in (accesses_of program race.one) race.access none race.touches
+
   defined : (config : Configuration) → AreKnown name literal config → (reason : Reason) →
       IsUndefinedBy program config reason → ⊥
   defined config known (Stuck i ub) stuck = not_stuck config known i ub stuck
-  defined config known (Race i j block offset) race = no_race program config i j block offset race
+  defined config known (Race i j block offset) race = no_race config known i j block offset race
 
   sound : (starts : List Start) (config : Configuration) → AllByRecursion (IsLiteralStart name literal) starts →
       AreKnown name literal config → IsSound program starts config

@@ -1,59 +1,74 @@
 -- Which bytes of memory a step touches (this project's own).
-use Rattle.std.specs.Prelude.{ℕ, ◌≡◌, ◌+◌, ◌≤◌, ◌<◌, Bool, List, [], Option, Some, None, Result, Ok, Err}
-use Rattle.layouts.specs.declared.table.Table.{Table}
+use Rattle.std.specs.Prelude.{ℕ, ◌≡◌, ◌<◌, ℤ, pos, ◌≤ℤ◌, ◌<ℤ◌, ◌+ℤ◌, Bool, true, false, List, [], ◌∷◌, ◌++◌, map}
+use Rattle.std.specs.Prelude.{◌⊎◌, IsTrue, Option, Some, None}
+use Rattle.layouts.specs.declared.table.Declaration.{Declaration}
+use Rattle.layouts.specs.Table.{bytes_of}
+use Rattle.rc_terms.specs.declared.location.Loc.{Loc}
+use Rattle.rc_terms.specs.declared.location.Loc.TheVariants.{Null, At}
 use Rattle.rc_terms.specs.declared.byte.MByte.{MByte}
 use Rattle.byte_memory.specs.declared.memory.Memory.{Memory}
+use Rattle.byte_memory.specs.Memory.{length_at}
 use Rattle.caesium_ir.specs.declared.operation.Op.{Op}
-use Rattle.caesium_ir.specs.declared.operation.Op.TheVariants.{Const, Poison}
+use Rattle.caesium_ir.specs.declared.operation.Op.TheVariants.{Load, LoadAtomic, Store, StoreAtomic, Cas, Exchange}
 use Rattle.caesium_ir.specs.declared.block.End.{End}
-use Rattle.caesium_ir.specs.declared.block.End.TheVariants.{Goto, Return}
+use Rattle.caesium_ir.specs.declared.block.End.TheVariants.{Return}
 use Rattle.caesium_ir.specs.declared.program.Program.{Program}
-use Rattle.thread_steps.specs.declared.answer.Ub.{Ub}
+use Rattle.thread_steps.specs.declared.access.Touched.{Touched}
+use Rattle.thread_steps.specs.declared.access.Touched.TheVariants.{Range, Block}
+use Rattle.thread_steps.specs.declared.access.Access.{Access}
 use Rattle.thread_steps.specs.declared.frame.Frame.{Frame}
 use Rattle.thread_steps.specs.declared.thread.Thread.{Thread}
 use Rattle.thread_steps.specs.declared.thread.Thread.TheVariants.{Running, Finished}
 use Rattle.thread_steps.specs.Frame.{operands_on}
+use Rattle.thread_steps.specs.Operands.{pointer_of}
 use Rattle.thread_steps.specs.Operations.{operand_count}
 use Rattle.thread_steps.specs.Next.{NextOf, Runs, Ends, next_of}
-use Rattle.thread_steps.specs.Step.{After, step_of}
 
--- a range of bytes of a block: from the byte at `start` on, this many, read or written, atomically or not
-pub record Access : Type 0 where
-  pub block : ℕ
-  pub start : ℕ
-  pub length : ℕ
-  pub writes : Bool
-  pub atomic : Bool
+-- the byte at this offset of this block is one of these: so many from a location on, or all of a block
+abbrev pub IsIn : Memory → Touched → ℕ → ℕ → Type 0
+IsIn memory (Range Null size) block offset = ⊥
+IsIn memory (Range (At of start) size) block offset =
+    (of ≡ block) × (start ≤ℤ pos offset) × (pos offset <ℤ (start +ℤ pos size))
+IsIn memory (Block of) block offset = (of ≡ block) × (offset < length_at memory block)
 
--- the range has the byte at this offset of this block
-pub record Covers (access : Access) (block offset : ℕ) : Type 0 where
-  pub same_block : access.block ≡ block
-  pub from : access.start ≤ offset
-  pub before_end : offset < access.start + access.length
+-- an access to so many bytes at a pointer, written or not, atomically or not
+abbrev pub access_at : ℕ → Bool → Bool → Option Loc → List Access
+access_at size writes atomic None = []
+access_at size writes atomic (Some at) = record { bytes = Range at size; writes = writes; atomic = atomic } ∷ []
 
--- what an operation on these operands touches: a constant nothing, and poison nothing
-abbrev pub op_accesses : Table → Op → List (List MByte) → List Access
-op_accesses table (Const of value) operands = []
-op_accesses table (Poison size) operands = []
+-- what an operation on these operands touches; what is no pointer points to nothing
+abbrev pub op_accesses : List Declaration → Op → List (List MByte) → List Access
+op_accesses table (Load layout) (at ∷ []) = access_at (bytes_of table layout) false false (pointer_of at)
+op_accesses table LoadAtomic (at ∷ []) = access_at 1 false true (pointer_of at)
+op_accesses table (Store layout) (at ∷ value ∷ []) = access_at (bytes_of table layout) true false (pointer_of at)
+op_accesses table StoreAtomic (at ∷ value ∷ []) = access_at 1 true true (pointer_of at)
+op_accesses table Exchange (at ∷ value ∷ []) = access_at 1 true true (pointer_of at)
+op_accesses table Cas (object ∷ expected ∷ desired ∷ []) =
+    access_at 1 true true (pointer_of object) ++ access_at 1 true false (pointer_of expected)
+op_accesses table op operands = []
 
--- what the end of a block touches: a `goto` nothing, and a `return` nothing
-abbrev pub end_accesses : End → List Access
-end_accesses (Goto label) = []
-end_accesses Return = []
+-- every byte of a block is written
+abbrev pub closes : ℕ → Access
+closes block = record { bytes = Block block; writes = true; atomic = false }
+
+-- what the end of a block touches: a `return` all bytes of the blocks that it closes
+abbrev pub end_accesses : End → Frame → List Access
+end_accesses Return frame = map closes frame.locals
+end_accesses end frame = []
 
 -- what the next operation or end of a frame touches
-abbrev pub next_accesses : Table → Option NextOf → Frame → List Access
+abbrev pub next_accesses : List Declaration → Option NextOf → Frame → List Access
 next_accesses table None frame = []
 next_accesses table (Some (Runs function op)) frame = op_accesses table op (operands_on (operand_count op) frame)
-next_accesses table (Some (Ends function end)) frame = end_accesses end
+next_accesses table (Some (Ends function end)) frame = end_accesses end frame
 
--- these where the step is defined; a step that is undefined touches nothing
-abbrev pub if_defined : Result After Ub → List Access → List Access
-if_defined (Ok after) accesses = accesses
-if_defined (Err ub) accesses = []
+-- what the next step of a thread touches: nothing where it has none, and where it is stuck, what it would have
+abbrev pub accesses_of : Program → Thread → List Access
+accesses_of program (Running top callers) = next_accesses program.table (next_of program top) top
+accesses_of program (Finished value) = []
 
--- what the next step of a thread touches: nothing where it has none
-abbrev pub accesses_of : Program → Memory → Thread → List Access
-accesses_of program memory (Running top callers) =
-    if_defined (step_of program top callers memory) (next_accesses program.table (next_of program top) top)
-accesses_of program memory (Finished value) = []
+-- one of the accesses writes the byte at this offset of this block
+abbrev pub IsWritten : Memory → List Access → ℕ → ℕ → Type 0
+IsWritten memory [] block offset = ⊥
+IsWritten memory (access ∷ accesses) block offset =
+    (IsTrue access.writes × IsIn memory access.bytes block offset) ⊎ IsWritten memory accesses block offset

@@ -3,13 +3,19 @@ use Rattle.std.specs.Prelude.{ℕ, ◌+◌, List, [], ◌∷◌, codes, reverse,
 use Rattle.rc_terms.specs.declared.byte.MByte.{MByte}
 use Rattle.thread_steps.specs.declared.frame.Frame.{Frame}
 
--- a call of the function that has done nothing: at its block `.`, before the first operation, with an empty row
-abbrev pub starting_frame : List ℕ → Frame
-starting_frame function = record { function = function; label = codes "."; operation = 0; row = [] }
+-- a call of the function that has done nothing: at its block `.`, before the first operation, with these blocks for its
+-- locals and an empty row
+abbrev pub entering_frame : List ℕ → List ℕ → Frame
+entering_frame function locals =
+    record { function = function; label = codes "."; operation = 0; locals = locals; row = [] }
 
--- at the head of the block of the label, with the same row
-abbrev pub entered : List ℕ → Frame → Frame
-entered label frame = record frame { label = label; operation = 0 }
+-- the same of a function without locals
+abbrev pub starting_frame : List ℕ → Frame
+starting_frame function = entering_frame function []
+
+-- at the head of the block of the label, with this row
+abbrev pub entered : List ℕ → List (List MByte) → Frame → Frame
+entered label row frame = record frame { label = label; operation = 0; row = row }
 
 -- with the value on its row, where there is one
 abbrev pub given : Option (List MByte) → Frame → Frame

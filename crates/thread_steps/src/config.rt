@@ -4,7 +4,7 @@ ghost use Rattle.thread_steps.specs.Configuration.{starting};
 ghost use Rattle.thread_steps.specs.Answer.{IsAnswer};
 
 use crate::answer::Stepped;
-use crate::thread::Thread;
+use crate::thread::{Taken, Thread};
 use byte_memory::Memory;
 use caesium_ir::Program;
 use rc_text::{Bytes, NoMemory};
@@ -74,5 +74,13 @@ pub fn step(
     ensures { IfOk result (λ answer. IsAnswer program.now i config.old config.new answer) }
 {
     let thread = &mut config.threads[i];
-    thread.step(alloc, program, &mut config.memory)
+    match thread.step(alloc, program, &mut config.memory)? {
+        Taken::Stepped(None) => Ok(Stepped::Stepped),
+        Taken::Stepped(Some(started)) => {
+            config.threads.push(started)?;
+            Ok(Stepped::Stepped)
+        }
+        Taken::Finished => Ok(Stepped::Finished),
+        Taken::Undefined(ub) => Ok(Stepped::Undefined(ub)),
+    }
 }

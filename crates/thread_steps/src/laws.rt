@@ -1,4 +1,6 @@
-ghost use Rattle.std.specs.Prelude.{◌≡◌, ℕ, ◌<◌, ◌^◌, ◌⊎◌, List, pos};
+ghost use Rattle.std.specs.Prelude.{◌≡◌, ℕ, ◌<◌, ◌^◌, ◌⊎◌, List, length, pos, Some, slice_get};
+ghost use Rattle.byte_memory.specs.Memory.{byte_at};
+ghost use Rattle.thread_steps.specs.Access.{accesses_of, IsWritten};
 ghost use Rattle.std.specs.List.{AllByRecursion};
 ghost use Rattle.byte_memory.specs.declared.memory.Memory.{Memory};
 ghost use Rattle.caesium_ir.specs.declared.literal_places.LiteralPlaces.{LiteralPlaces};
@@ -49,4 +51,17 @@ pub fn running_threads_step_or_are_stuck()
         (ub : Ub) × IsStuck program (Running top callers) memory ub }
     ensures one_kind { (program : Program) (thread : Thread) (memory : Memory) (ub other : Ub) →
         IsStuck program thread memory ub → IsStuck program thread memory other → ub ≡ other }
+{}
+
+/// A step changes no byte of a block that was there before but those that its accesses write, and so does a step of a
+/// configuration.
+pub fn steps_write_what_they_access()
+    ensures threads { (program : Program) (thread : Thread) (memory : Memory) (after : After) (block offset : ℕ) →
+        Step program thread memory after → block < length memory →
+        ¬ IsWritten memory (accesses_of program thread) block offset →
+        byte_at after.memory block offset ≡ byte_at memory block offset }
+    ensures configurations { (program : Program) (i : ℕ) (old new : Configuration) (thread : Thread)
+        (block offset : ℕ) → StepsAt program i old new → slice_get old.threads i ≡ Some thread →
+        block < length old.memory → ¬ IsWritten old.memory (accesses_of program thread) block offset →
+        byte_at new.memory block offset ≡ byte_at old.memory block offset }
 {}

@@ -1,6 +1,11 @@
 ghost use Rattle.std.specs.Prelude.{◌≡◌, IfOk, IfSome};
 ghost use Rattle.caesium_ir.specs.WellFormed.{IsWellFormed};
 
+mod call_rows;
+mod memory_rows;
+mod operation_rows;
+mod race_rows;
+
 use super::*;
 use byte_memory::{MByte, Memory, Value};
 use caesium_ir::{Block, End, Function, LiteralPlaces, Op, PlacedOp, Program, one_literal};
@@ -67,6 +72,8 @@ fn one_block(
     functions.push(Function {
         name: Bytes::from_slice(alloc, b"short")?,
         result: result_layout,
+        parameters: Items::new(alloc),
+        locals: Items::new(alloc),
         blocks,
         place: Place::START,
     })?;
@@ -120,7 +127,7 @@ fn expect_frame(
     literal: Option<u8>,
 ) -> Result<(), Fail> {
     let frame = only_frame(thread)?;
-    assert!(rt; frame.label.as_slice() == label);
+    assert!(rt; frame.label.name() == label);
     assert_eq!(rt; frame.operation, operation);
     match literal {
         None => assert!(rt; frame.row.is_empty()),
@@ -252,8 +259,8 @@ fn expect_caller(
     requires { IsWellFormed program.now }
 {
     let mut thread = called(alloc)?;
-    let answer = thread.step(alloc, program, &mut Memory::new(alloc))?;
-    assert_eq!(rt; answer, Stepped::Stepped);
+    let taken = thread.step(alloc, program, &mut Memory::new(alloc))?;
+    assert!(rt; matches!(taken, Taken::Stepped(None)));
     expect_frame(rt, &thread, b".", 0, literal)
 }
 

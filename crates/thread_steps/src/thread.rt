@@ -1,18 +1,17 @@
-ghost use Rattle.std.specs.Prelude.{◌≡◌, ◌+◌, ◌<◌, ◌^◌, IfOk};
-ghost use Rattle.byte_memory.specs.declared.memory.Memory.{Memory};
-ghost use Rattle.caesium_ir.specs.WellFormed.{IsWellFormed, IsWellFormedResult};
-ghost use Rattle.thread_steps.specs.Thread.{starting_thread, returned};
-ghost use Rattle.thread_steps.specs.Step.{step_of, step_op, step_end, step_return};
+ghost use Rattle.std.specs.Prelude.{◌≡◌, IfOk};
+ghost use Rattle.caesium_ir.specs.WellFormed.{IsWellFormed};
+ghost use Rattle.thread_steps.specs.Thread.{starting_thread};
+ghost use Rattle.thread_steps.specs.Step.{step_of};
 ghost use Rattle.thread_steps.specs.Answer.{IsThreadAnswer, IsAnswerTo};
 
-use crate::answer::{Stepped, Ub};
+use crate::answer::Ub;
+use crate::block_ends::step_ending;
 use crate::frame::Frame;
 use crate::next::{Next, find_next};
-use crate::operations::{operand_count, operate};
+use crate::op_steps::step_operation;
 use crate::stack::Stack;
 use byte_memory::{Memory, Value};
-use caesium_ir::{End, Function, Op, Program};
-use layouts::{Layout, Table, size_of};
+use caesium_ir::Program;
 use rc_text::NoMemory;
 use std::alloc::Global;
 use std::mem;
@@ -24,6 +23,17 @@ pub enum Thread {
     Running { top: Frame, callers: Stack<Frame> },
     /// Its first function has returned, with this value where it is not void.
     Finished(Option<Value>),
+}
+
+/// What came of a thread's step.
+#[derive(Debug, Drop)]
+pub enum Taken {
+    /// It took its next step, which may have started a thread.
+    Stepped(Option<Thread>),
+    /// It is finished, and nothing changed.
+    Finished,
+    /// It has no next step, and nothing changed.
+    Undefined(Ub),
 }
 
 impl Thread {
@@ -43,16 +53,16 @@ impl Thread {
         alloc: Global,
         program: &Program,
         memory: &mut Memory,
-    ) -> Result<Stepped, NoMemory>
+    ) -> Result<Taken, NoMemory>
         requires { IsWellFormed program.now }
-        ensures { IfOk result (λ answer. IsThreadAnswer program.now self.old memory.old self.new memory.new answer) }
+        ensures { IfOk result (λ taken. IsThreadAnswer program.now self.old memory.old self.new memory.new taken) }
     {
-        let (thread, answer) = match mem::replace(self, Thread::Finished(None)) {
+        let (thread, taken) = match mem::replace(self, Thread::Finished(None)) {
             Thread::Running { top, callers } => step_frame(alloc, program, top, callers, memory)?,
-            finished => (finished, Stepped::Finished),
+            finished => (finished, Taken::Finished),
         };
         *self = thread;
-        Ok(answer)
+        Ok(taken)
     }
 }
 
@@ -63,123 +73,25 @@ fn step_frame(
     top: Frame,
     callers: Stack<Frame>,
     memory: &mut Memory,
-) -> Result<(Thread, Stepped), NoMemory>
+) -> Result<(Thread, Taken), NoMemory>
     requires { IsWellFormed program.now }
     ensures { let expected = step_of program.now top callers memory.old in
         let old = Thread.Running top callers in
         IfOk result (λ after. IsAnswerTo expected old memory.old after.0 memory.new after.1) }
 {
     match find_next(program, &top) {
-        None => Ok(undefined(top, callers)),
-        Some(Next::Operation(_, op)) => {
-            step_operation(alloc, &program.table, op, top, callers, memory)
-        }
+        None => Ok(stuck(Ub::PoisonUsed, top, callers)),
+        Some(Next::Operation(_, op)) => step_operation(alloc, program, op, top, callers, memory),
         Some(Next::Ending(function, end)) => {
-            step_ending(alloc, &program.table, function, end, top, callers)
+            step_ending(alloc, program, function, end, top, callers, memory)
         }
     }
 }
 
-/// An operation.
-fn step_operation(
-    alloc: Global,
-    table: &Table,
-    op: &Op,
-    mut top: Frame,
-    callers: Stack<Frame>,
-    memory: &mut Memory,
-) -> Result<(Thread, Stepped), NoMemory>
-    requires { top.operation + 1 < 2 ^ 64 }
-    ensures { let expected = step_op table.now op.now top callers memory.old in
-        let old = Thread.Running top callers in
-        IfOk result (λ after. IsAnswerTo expected old memory.old after.0 memory.new after.1) }
-{
-    let count = operand_count(op);
-    let answer = match operate(alloc, table, op, top.row.topmost(count), memory)? {
-        Ok(value) => {
-            top.operate(count, value)?;
-            Stepped::Stepped
-        }
-        Err(ub) => Stepped::Undefined(ub),
-    };
-    Ok((Thread::Running { top, callers }, answer))
-}
-
-/// The end of a block.
-fn step_ending(
-    alloc: Global,
-    table: &Table,
-    function: &Function,
-    end: &End,
-    mut top: Frame,
-    callers: Stack<Frame>,
-) -> Result<(Thread, Stepped), NoMemory>
-    requires { IsWellFormedResult table.now function.now.result }
-    ensures { (memory : Memory) →
-        let expected = step_end table.now function.now end.now top callers memory in
-        let old = Thread.Running top callers in
-        IfOk result (λ after. IsAnswerTo expected old memory after.0 memory after.1) }
-{
-    match end {
-        End::Goto(label) => {
-            top.enter(alloc, label.as_slice())?;
-            Ok((Thread::Running { top, callers }, Stepped::Stepped))
-        }
-        End::Return => step_leaving(table, function.result, top, callers),
-    }
-}
-
-/// A return from a function of this result.
-fn step_leaving(
-    table: &Table,
-    result_layout: Option<Layout>,
-    mut top: Frame,
-    callers: Stack<Frame>,
-) -> Result<(Thread, Stepped), NoMemory>
-    requires { IsWellFormedResult table.now result_layout }
-    ensures { (memory : Memory) →
-        let expected = step_return table.now result_layout top.row callers memory in
-        let old = Thread.Running top callers in
-        IfOk result (λ after. IsAnswerTo expected old memory after.0 memory after.1) }
-{
-    let Some(layout) = result_layout else {
-        return Ok((return_to(callers, None)?, Stepped::Stepped));
-    };
-    match top.row.pop() {
-        Some(value) if value.len() == size_of(layout, table) as usize => {
-            Ok((return_to(callers, Some(value))?, Stepped::Stepped))
-        }
-        Some(value) => {
-            top.row.push(value)?;
-            Ok(undefined(top, callers))
-        }
-        None => Ok(undefined(top, callers)),
-    }
-}
-
-/// These frames as they were, where an operand is poison or missing.
-fn undefined(top: Frame, callers: Stack<Frame>) -> (Thread, Stepped)
+/// These frames as they were, without a next step.
+pub(crate) fn stuck(ub: Ub, top: Frame, callers: Stack<Frame>) -> (Thread, Taken)
     ensures thread { result.0 ≡ Thread.Running top callers }
-    ensures answer { result.1 ≡ Stepped.Undefined Ub.PoisonUsed }
+    ensures taken { result.1 ≡ Taken.Undefined ub }
 {
-    (
-        Thread::Running { top, callers },
-        Stepped::Undefined(Ub::PoisonUsed),
-    )
-}
-
-/// The thread after a return to these callers.
-fn return_to(mut callers: Stack<Frame>, value: Option<Value>) -> Result<Thread, NoMemory>
-    ensures { IfOk result (λ thread. thread ≡ returned value callers) }
-{
-    match callers.pop() {
-        None => Ok(Thread::Finished(value)),
-        Some(mut caller) => {
-            caller.give(value)?;
-            Ok(Thread::Running {
-                top: caller,
-                callers,
-            })
-        }
-    }
+    (Thread::Running { top, callers }, Taken::Undefined(ub))
 }
