@@ -1,0 +1,7 @@
+pub mod Names
+pub mod Marks
+pub mod Input
+pub mod Attributes
+pub mod Operators
+pub mod Specifiers
+pub mod Expressions

@@ -1,0 +1,7 @@
+//! The grammar of C files, as the profile of C has it (C11 6.5 to 6.9): relations between tokens and trees, one case
+//! for each production, under the names that are in scope. The layer above reads by it.
+#![tactic(auto)]
+
+mod names;
+
+pub use names::{NameEntry, NameKind};
