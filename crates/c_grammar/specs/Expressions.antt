@@ -32,11 +32,11 @@ use Rattle.c_syntax.specs.declared.expr.ExprKind.{ExprKind}
 use Rattle.c_syntax.specs.declared.expr.ExprKind.TheVariants as kinds
 use Rattle.c_syntax.specs.declared.expr.TypeName.{TypeName, roll-TypeName}
 use Rattle.c_grammar.specs.declared.names.NameKind.TheVariants as names
-use Rattle.c_grammar.specs.Names.{Word, TypedefName, HeaderName}
-use Rattle.c_grammar.specs.Input.{Input, Named, Meant, mark, keyword, identifier, meant, declares}
+use Rattle.c_grammar.specs.Input.{Input, Named, mark, identifier, declares}
 use Rattle.c_grammar.specs.Attributes.{Attributes}
 use Rattle.c_grammar.specs.Operators as operators
 use Rattle.c_grammar.specs.Operators.{start, comma_level, assignment_level, conditional_level, cast_level, unary_level, postfix_level, binary_level, logical_level}
+use Rattle.c_grammar.specs.Specifiers as types
 use Rattle.c_grammar.specs.Specifiers.{is_integer_word, is_modifier, is_qualifier, is_specifier_word, integer_type, Words, Pointers}
 
 -- an expression of this kind at the place
@@ -51,9 +51,9 @@ Starts from begin place rest = start from ≡ Some (record { start = begin; plac
 abbrev pub Continues : Input → operators.Infix → Input → Type 0
 Continues from operator rest = operators.behind from ≡ Some (record { operator = operator; rest = rest })
 
--- the next token is a name of this sort
-abbrev pub Means : Input → Word → List ℕ → Input → Type 0
-Means from word text rest = meant from ≡ Some (record { word = word; text = text; rest = rest })
+-- the next token begins a type in this way
+abbrev pub BeginsType : Input → types.TypeStart → Input → Type 0
+BeginsType from begin rest = types.type_start from ≡ Some (record { start = begin; rest = rest })
 
 -- a type's name with its `*`s and array lengths
 abbrev pub type_name : TypeSpecifier → ℕ → List Expr → TypeName
@@ -209,33 +209,33 @@ mutual
 
   -- a type that one word names, or a tag
   pub data SingleType : Input → TypeSpecifier → Input → Type 0 where
-    void : {from to : Input} → keyword words.Void from ≡ Some to → SingleType from specifiers.Void to
-    bool : {from to : Input} → keyword words.Bool from ≡ Some to → SingleType from specifiers.Bool to
+    void : {from to : Input} → BeginsType from types.Void to → SingleType from specifiers.Void to
+    bool : {from to : Input} → BeginsType from types.Boolean to → SingleType from specifiers.Bool to
     -- typedef-name
-    typedef : {from : Input} {text : List ℕ} {to : Input} → Means from TypedefName text to
+    typedef : {from : Input} {text : List ℕ} {to : Input} → BeginsType from (types.Typedef text) to
         → SingleType from (specifiers.Typedef text) to
-    header : {from : Input} {type : HeaderType} {text : List ℕ} {to : Input} → Means from (HeaderName type) text to
+    header : {from : Input} {type : HeaderType} {to : Input} → BeginsType from (types.Header type) to
         → SingleType from (specifiers.Header type) to
     -- struct-or-union-specifier without members
     struct : {from outer : Input} {attributes : List Attribute} {behind : Input} {tag : Named}
-        → keyword words.Struct from ≡ Some outer → Attributes outer attributes behind → identifier behind ≡ Some tag
+        → BeginsType from types.Struct outer → Attributes outer attributes behind → identifier behind ≡ Some tag
         → SingleType from (specifiers.Record records.Struct attributes tag.name) tag.rest
     union : {from outer : Input} {attributes : List Attribute} {behind : Input} {tag : Named}
-        → keyword words.Union from ≡ Some outer → Attributes outer attributes behind → identifier behind ≡ Some tag
+        → BeginsType from types.Union outer → Attributes outer attributes behind → identifier behind ≡ Some tag
         → SingleType from (specifiers.Record records.Union attributes tag.name) tag.rest
     -- enum-specifier without constants
     enum : {from outer : Input} {attributes : List Attribute} {behind : Input} {tag : Named}
-        → keyword words.Enum from ≡ Some outer → Attributes outer attributes behind → identifier behind ≡ Some tag
+        → BeginsType from types.Enum outer → Attributes outer attributes behind → identifier behind ≡ Some tag
         → SingleType from (specifiers.Enum attributes tag.name) tag.rest
     -- enum-specifier with its constants, with a tag or without one
     enumeration : {from outer : Input} {attributes : List Attribute} {behind : Input} {tag : Named} {inner : Input}
-        {enumerators : List Enumerator} {to : Input} → keyword words.Enum from ≡ Some outer
+        {enumerators : List Enumerator} {to : Input} → BeginsType from types.Enum outer
         → Attributes outer attributes behind → identifier behind ≡ Some tag → mark marks.OpenBrace tag.rest ≡ Some inner
         → Enumerators inner enumerators to
         → SingleType from (specifiers.EnumDefinition (roll-EnumDefinition (record {
             attributes = attributes; tag = Some tag.name; enumerators = enumerators }))) to
     untagged_enumeration : {from outer : Input} {attributes : List Attribute} {behind inner : Input}
-        {enumerators : List Enumerator} {to : Input} → keyword words.Enum from ≡ Some outer
+        {enumerators : List Enumerator} {to : Input} → BeginsType from types.Enum outer
         → Attributes outer attributes behind → mark marks.OpenBrace behind ≡ Some inner → Enumerators inner enumerators to
         → SingleType from (specifiers.EnumDefinition (roll-EnumDefinition (record {
             attributes = attributes; tag = None; enumerators = enumerators }))) to

@@ -40,10 +40,6 @@ unfoldable pub mark : Punctuator → Input → Option Input
 mark punctuator input =
     option_and_then (λ taken. taken_if (is_mark punctuator taken.token.kind) taken.rest) (next input)
 
--- what is left behind the keyword, where it stands next
-unfoldable pub keyword : Keyword → Input → Option Input
-keyword word input = option_and_then (λ taken. taken_if (is_keyword word taken.token.kind) taken.rest) (next input)
-
 -- whether a token of this kind is an identifier, whatever is declared: a header's names are identifiers too
 abbrev pub is_identifier : TokenKind → Bool
 is_identifier kinds.Identifier = true
@@ -65,20 +61,6 @@ unfoldable pub identifier : Input → Option Named
 identifier input =
     option_and_then (λ taken. if is_identifier taken.token.kind
         then Some (record { name = name_of taken.token; rest = taken.rest }) else None) (next input)
-
--- what the next token is as a name, its spelling, and what is left behind it
-pub record Meant : Type 0 where
-  pub word : Word
-  pub text : List ℕ
-  pub rest : Input
-
--- the next token as a name under the names in scope
-unfoldable pub meant : Input → Option Meant
-meant input = option_and_then (λ taken. Some (record {
-    word = word_of input.names taken.token;
-    text = taken.token.text;
-    rest = taken.rest;
-  })) (next input)
 
 -- the same tokens with one more name in scope
 abbrev pub declares : Input → List ℕ → NameKind → Input

@@ -5,3 +5,4 @@ pub mod Attributes
 pub mod Operators
 pub mod Specifiers
 pub mod Expressions
+pub mod Reading

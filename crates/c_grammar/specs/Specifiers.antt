@@ -12,7 +12,9 @@ use Rattle.c_lexer.specs.declared.punctuator.Punctuator.TheVariants as marks
 use Rattle.c_lexer.specs.contracts.keyword.Keyword.{the_type}
 use Rattle.c_syntax.specs.declared.specifier.IntegerType.{IntegerType}
 use Rattle.c_syntax.specs.declared.specifier.IntegerType.TheVariants as types
-use Rattle.c_grammar.specs.Input.{Input, Taken, next, mark}
+use Rattle.c_lexer.specs.declared.header_type.HeaderType.{HeaderType}
+use Rattle.c_grammar.specs.Names.{Word, TypedefName, HeaderName, word_of}
+use Rattle.c_grammar.specs.Input.{Input, next, mark}
 
 -- a word of an integer type
 abbrev pub is_integer_word : Keyword → Bool
@@ -126,3 +128,49 @@ pub data Pointers : Input → ℕ → Input → Type 0 where
   more : {from behind : Input} {qualifiers : List Keyword} {inner : Input} {count : ℕ} {to : Input}
       → mark marks.Star from ≡ Some behind → Words is_qualifier behind qualifiers inner → Pointers inner count to
       → Pointers from (suc count) to
+
+-- what a token is at the beginning of a type
+pub data TypeStart : Type 0 where
+  Void : TypeStart
+  Boolean : TypeStart
+  Struct : TypeStart
+  Union : TypeStart
+  Enum : TypeStart
+  Typedef : List ℕ → TypeStart
+  Header : HeaderType → TypeStart
+  -- a word of an integer type, or one beside it
+  SpecifierWord : TypeStart
+  -- it begins none
+  NoType : TypeStart
+
+-- what a keyword is there
+abbrev pub type_keyword : Keyword → TypeStart
+type_keyword words.Void = Void
+type_keyword words.Bool = Boolean
+type_keyword words.Struct = Struct
+type_keyword words.Union = Union
+type_keyword words.Enum = Enum
+type_keyword word = if is_specifier_word word then SpecifierWord else NoType
+
+-- what a name is there
+abbrev pub type_word : Word → List ℕ → TypeStart
+type_word TypedefName text = Typedef text
+type_word (HeaderName type) text = Header type
+type_word _ text = NoType
+
+-- what a token of this kind, which is this as a name, is there
+abbrev pub type_by : TokenKind → Word → List ℕ → TypeStart
+type_by (kinds.Keyword word) meaning text = type_keyword word
+type_by _ meaning text = type_word meaning text
+
+-- the first token of a type, and what is left behind it
+pub record TypeStarted : Type 0 where
+  pub start : TypeStart
+  pub rest : Input
+
+-- what the next token is as the first one of a type
+unfoldable pub type_start : Input → Option TypeStarted
+type_start input = option_and_then (λ taken. Some (record {
+    start = type_by taken.token.kind (word_of input.names taken.token) taken.token.text;
+    rest = taken.rest;
+  })) (next input)

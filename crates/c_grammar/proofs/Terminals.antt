@@ -1,0 +1,173 @@
+-- What the next token is, by what was taken, and that something is left behind.
+use denote.Enum.Bare.{sameb, same_true}
+use Rattle.std.proofs.Common.{◌≡◌, ℕ, suc, ◌≤◌, ◌<◌, Bool, true, false, List, [], ◌∷◌, length, Option, Some, None, option_and_then, sym, refl, ap, ◌∙◌, arith}
+use Rattle.std.proofs.lemmas.Bool.{false≢true}
+use Rattle.std.proofs.lemmas.Option.{none-some, same_Some}
+use Rattle.c_lexer.specs.declared.token.Token.{Token}
+use Rattle.c_lexer.specs.declared.token.TokenKind.{TokenKind}
+use Rattle.c_lexer.specs.declared.token.TokenKind.TheVariants as kinds
+use Rattle.c_lexer.specs.declared.punctuator.Punctuator.{Punctuator}
+use Rattle.c_lexer.specs.declared.punctuator.Punctuator.TheVariants as marks
+use Rattle.c_lexer.specs.declared.keyword.Keyword.{Keyword}
+use Rattle.c_lexer.specs.contracts.punctuator.Punctuator as punctuator
+use Rattle.c_grammar.specs.declared.names.NameEntry.{NameEntry}
+use Rattle.c_grammar.specs.Names.{word_of}
+use Rattle.c_grammar.specs.Marks.{is_mark}
+use Rattle.c_grammar.specs.Input.{Input, Taken, Named, first_of_tokens, next, taken_if, mark, is_identifier, name_of, identifier}
+use Rattle.c_grammar.specs.Attributes.{ReadText, text_by, string}
+use Rattle.c_grammar.specs.Operators as operators
+use Rattle.c_grammar.specs.Operators.{TakenInfix, Started, infix_by, infix_mark, behind, start_by, start}
+use Rattle.c_grammar.specs.Specifiers.{TakenWord, TypeStarted, word_by, word, type_by, type_start}
+use Rattle.c_grammar.specs.Reading.{turns, begins_type, is_type, either}
+use Rattle.c_grammar.proofs.Steps.{into, into_if}
+
+-- ---- the next token
+
+first-turns : (tokens : List Token) (names : List NameEntry) (taken : Taken) → first_of_tokens tokens names ≡ Some taken
+    → suc (length taken.rest.tokens) ≡ length tokens
+first-turns [] names taken e = absurd (none-some taken e)
+first-turns (token ∷ tokens) names taken e =
+    ap (λ (t : Taken). suc (length t.rest.tokens)) (sym (same_Some _ taken e))
+
+pub next-turns : (from : Input) (taken : Taken) → next from ≡ Some taken → suc (turns taken.rest) ≡ turns from
+next-turns from taken e = first-turns from.tokens from.names taken e
+
+is_mark-kind : (mark : Punctuator) (kind : TokenKind) → is_mark mark kind ≡ true → kind ≡ kinds.Punctuator mark
+is_mark-kind mark (kinds.Punctuator other) e = ap kinds.Punctuator (sym (same_true punctuator.the_type tt mark other e))
+is_mark-kind mark _ e = absurd (false≢true e)
+
+-- what is known where a punctuator was taken
+pub record Marked (punctuator : Punctuator) (from to : Input) : Type 0 where
+  pub taken : Taken
+  pub next : next from ≡ Some taken
+  pub kind : taken.token.kind ≡ kinds.Punctuator punctuator
+  pub rest : taken.rest ≡ to
+
+taken_if-some : (b : Bool) (rest to : Input) → taken_if b rest ≡ Some to → (b ≡ true) × (rest ≡ to)
+taken_if-some true rest to e = (refl, same_Some rest to e)
+taken_if-some false rest to e = absurd (none-some to e)
+
+pub marked : (p : Punctuator) (from to : Input) → mark p from ≡ Some to → Marked p from to
+unfolding mark
+marked p from to e = into _ (next from) to e λ taken is found.
+    let parts = taken_if-some (is_mark p taken.token.kind) taken.rest to found in
+    record { taken = taken; next = is; kind = is_mark-kind p taken.token.kind parts.0; rest = parts.1 }
+
+pub mark-turns : (p : Punctuator) (from to : Input) → mark p from ≡ Some to → suc (turns to) ≡ turns from
+mark-turns p from to e =
+    let m = marked p from to e in ap (λ (i : Input). suc (turns i)) (sym m.rest) ∙ next-turns from m.taken m.next
+
+pub identifier-turns : (from : Input) (named : Named) → identifier from ≡ Some named → suc (turns named.rest) ≡ turns from
+unfolding identifier
+identifier-turns from named e = into _ (next from) named e λ taken is found.
+    into_if (is_identifier taken.token.kind) _ _ named found
+    (λ _ some. ap (λ (n : Named). suc (turns n.rest)) (sym (same_Some _ named some)) ∙ next-turns from taken is)
+    (λ _ none. absurd (none-some named none))
+
+text_by-rest : (kind : TokenKind) (token : Token) (rest : Input) (read : ReadText) → text_by kind token rest ≡ Some read
+    → rest ≡ read.rest
+text_by-rest kinds.StringLiteral token rest read e = ap (λ (r : ReadText). r.rest) (same_Some _ read e)
+text_by-rest _ token rest read e = absurd (none-some read e)
+
+pub string-turns : (from : Input) (read : ReadText) → string from ≡ Some read → suc (turns read.rest) ≡ turns from
+unfolding string
+string-turns from read e = into _ (next from) read e λ taken is found.
+    ap (λ (i : Input). suc (turns i)) (sym (text_by-rest taken.token.kind taken.token taken.rest read found))
+    ∙ next-turns from taken is
+
+word_by-rest : (test : Keyword → Bool) (kind : TokenKind) (rest : Input) (taken : TakenWord) → word_by test kind rest ≡ Some taken
+    → rest ≡ taken.rest
+word_by-rest test (kinds.Keyword w) rest taken e = into_if (test w) _ _ taken e
+    (λ _ some. ap (λ (r : TakenWord). r.rest) (same_Some _ taken some)) (λ _ none. absurd (none-some taken none))
+word_by-rest test _ rest taken e = absurd (none-some taken e)
+
+pub word-turns : (test : Keyword → Bool) (from : Input) (taken : TakenWord) → word test from ≡ Some taken
+    → suc (turns taken.rest) ≡ turns from
+unfolding word
+word-turns test from read e = into _ (next from) read e λ taken is found.
+    ap (λ (i : Input). suc (turns i)) (sym (word_by-rest test taken.token.kind taken.rest read found))
+    ∙ next-turns from taken is
+
+-- what is known where a token began an expression
+pub record Begins (from : Input) (started : Started) : Type 0 where
+  pub taken : Taken
+  pub next : next from ≡ Some taken
+  pub start : start_by taken.token.kind (word_of from.names taken.token) taken.token.text ≡ started.start
+  pub rest : taken.rest ≡ started.rest
+
+pub begins : (from : Input) (started : Started) → start from ≡ Some started → Begins from started
+unfolding start
+begins from started e = into _ (next from) started e λ taken is found.
+    let same = same_Some _ started found in
+    record { taken = taken; next = is; start = ap (λ (s : Started). s.start) same; rest = ap (λ (s : Started). s.rest) same }
+
+pub start-turns : (from : Input) (started : Started) → start from ≡ Some started → suc (turns started.rest) ≡ turns from
+start-turns from started e =
+    let b = begins from started e in ap (λ (i : Input). suc (turns i)) (sym b.rest) ∙ next-turns from b.taken b.next
+
+-- what is known where a token began a type
+pub record BeginsAsType (from : Input) (started : TypeStarted) : Type 0 where
+  pub taken : Taken
+  pub next : next from ≡ Some taken
+  pub start : type_by taken.token.kind (word_of from.names taken.token) taken.token.text ≡ started.start
+  pub rest : taken.rest ≡ started.rest
+
+pub begins_as_type : (from : Input) (started : TypeStarted) → type_start from ≡ Some started → BeginsAsType from started
+unfolding type_start
+begins_as_type from started e = into _ (next from) started e λ taken is found.
+    let same = same_Some _ started found in
+    record {
+      taken = taken; next = is; start = ap (λ (s : TypeStarted). s.start) same; rest = ap (λ (s : TypeStarted). s.rest) same;
+    }
+
+pub type_start-turns : (from : Input) (started : TypeStarted) → type_start from ≡ Some started → suc (turns started.rest) ≡ turns from
+type_start-turns from started e =
+    let b = begins_as_type from started e in ap (λ (i : Input). suc (turns i)) (sym b.rest) ∙ next-turns from b.taken b.next
+
+-- what is known where a token goes on with an expression
+pub record GoesOn (from : Input) (taken_infix : TakenInfix) : Type 0 where
+  pub taken : Taken
+  pub next : next from ≡ Some taken
+  pub operator : infix_by taken.token.kind ≡ Some taken_infix.operator
+  pub rest : taken.rest ≡ taken_infix.rest
+
+pub goes_on_by : (from : Input) (found : TakenInfix) → behind from ≡ Some found → GoesOn from found
+unfolding behind
+goes_on_by from found e = into _ (next from) found e λ taken is more. into _ (infix_by taken.token.kind) found more λ operator known same.
+    record {
+      taken = taken; next = is;
+      operator = known ∙ ap (λ (t : TakenInfix). Some t.operator) (same_Some _ found same);
+      rest = ap (λ (t : TakenInfix). t.rest) (same_Some _ found same);
+    }
+
+pub behind-turns : (from : Input) (found : TakenInfix) → behind from ≡ Some found → suc (turns found.rest) ≡ turns from
+behind-turns from found e =
+    let g = goes_on_by from found e in ap (λ (i : Input). suc (turns i)) (sym g.rest) ∙ next-turns from g.taken g.next
+
+-- ---- one token is no other
+
+-- a punctuator is no other one
+pub other_mark : (p q : Punctuator) (from to : Input) → mark p from ≡ Some to → sameb punctuator.the_type q p ≡ false → mark q from ≡ None
+unfolding mark
+other_mark p q from to e differs = let m = marked p from to e in rw (m.next, m.kind, differs) refl
+
+-- a punctuator that goes on with nothing
+pub mark_ends : (p : Punctuator) (from to : Input) → mark p from ≡ Some to → infix_mark p ≡ None → behind from ≡ None
+unfolding behind
+mark_ends p from to e none = let m = marked p from to e in rw (m.next, m.kind, none) refl
+
+-- a punctuator is no word
+pub no_word_at_mark : (p : Punctuator) (test : Keyword → Bool) (from to : Input) → mark p from ≡ Some to → word test from ≡ None
+unfolding word
+no_word_at_mark p test from to e = let m = marked p from to e in rw (m.next, m.kind) refl
+
+-- an operator behind an expression is no opening parenthesis
+open_mark : (kind : TokenKind) (operator : operators.Infix) → infix_by kind ≡ Some operator → is_mark marks.OpenParenthesis kind ≡ false
+open_mark (kinds.Punctuator marks.OpenParenthesis) operator e = absurd (none-some operator e)
+open_mark (kinds.Punctuator _) operator e = refl
+open_mark _ operator e = refl
+
+pub no_open_behind : (from : Input) (found : TakenInfix) → behind from ≡ Some found → mark marks.OpenParenthesis from ≡ None
+unfolding mark
+no_open_behind from found e = let g = goes_on_by from found e in
+    rw (g.next, open_mark g.taken.token.kind found.operator g.operator) refl
