@@ -1,3 +1,4 @@
 mod Depths
 mod Steps
 mod Terminals
+mod AttributesRead

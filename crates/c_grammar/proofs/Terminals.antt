@@ -171,3 +171,29 @@ pub no_open_behind : (from : Input) (found : TakenInfix) → behind from ≡ Som
 unfolding mark
 no_open_behind from found e = let g = goes_on_by from found e in
     rw (g.next, open_mark g.taken.token.kind found.operator g.operator) refl
+
+-- a string is no punctuator
+text_no_mark : (kind : TokenKind) (token : Token) (rest : Input) (read : ReadText) (p : Punctuator) → text_by kind token rest ≡ Some read
+    → is_mark p kind ≡ false
+text_no_mark kinds.StringLiteral token rest read p e = refl
+text_no_mark _ token rest read p e = absurd (none-some read e)
+
+pub no_mark_at_string : (p : Punctuator) (from : Input) (read : ReadText) → string from ≡ Some read → mark p from ≡ None
+unfolding mark string
+no_mark_at_string p from read e = into _ (next from) read e λ taken is found.
+    rw (is, text_no_mark taken.token.kind taken.token taken.rest read p found) refl
+
+-- an identifier is no punctuator
+identifier_no_mark : (kind : TokenKind) (p : Punctuator) → is_identifier kind ≡ true → is_mark p kind ≡ false
+identifier_no_mark (kinds.Punctuator q) p e = absurd (false≢true e)
+identifier_no_mark _ p e = refl
+
+pub no_mark_at_identifier : (p : Punctuator) (from : Input) (named : Named) → identifier from ≡ Some named → mark p from ≡ None
+unfolding mark identifier
+no_mark_at_identifier p from named e = into _ (next from) named e λ taken is found.
+    into_if (is_identifier taken.token.kind) _ _ named found
+    (λ known _. rw (is, identifier_no_mark taken.token.kind p known) refl) (λ _ none. absurd (none-some named none))
+
+pub no_identifier_at_mark : (p : Punctuator) (from to : Input) → mark p from ≡ Some to → identifier from ≡ None
+unfolding identifier
+no_identifier_at_mark p from to e = let m = marked p from to e in rw (m.next, m.kind) refl
