@@ -2,3 +2,4 @@ mod Depths
 mod Steps
 mod Terminals
 mod AttributesRead
+mod TypesRead

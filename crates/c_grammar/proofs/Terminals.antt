@@ -197,3 +197,50 @@ no_mark_at_identifier p from named e = into _ (next from) named e λ taken is fo
 pub no_identifier_at_mark : (p : Punctuator) (from to : Input) → mark p from ≡ Some to → identifier from ≡ None
 unfolding identifier
 no_identifier_at_mark p from to e = let m = marked p from to e in rw (m.next, m.kind) refl
+
+-- ---- the next token by its kind, whatever is in scope
+
+-- a punctuator stands at the front of the tokens
+pub record NextIs (punctuator : Punctuator) (tokens : List Token) : Type 0 where
+  pub token : Token
+  pub others : List Token
+  pub front : tokens ≡ token ∷ others
+  pub kind : token.kind ≡ kinds.Punctuator punctuator
+
+front_token : (tokens : List Token) (names : List NameEntry) (taken : Taken) → first_of_tokens tokens names ≡ Some taken
+    → tokens ≡ taken.token ∷ taken.rest.tokens
+front_token [] names taken e = absurd (none-some taken e)
+front_token (token ∷ tokens) names taken e = ap (λ (t : Taken). t.token ∷ t.rest.tokens) (same_Some _ taken e)
+
+pub next_is : (p : Punctuator) (from to : Input) → mark p from ≡ Some to → NextIs p from.tokens
+next_is p from to e = let m = marked p from to e in record {
+    token = m.taken.token;
+    others = m.taken.rest.tokens;
+    front = front_token from.tokens from.names m.taken m.next;
+    kind = m.kind;
+  }
+
+taken_at : (p : Punctuator) (from : Input) → NextIs p from.tokens → (taken : Taken) × (next from ≡ Some taken) × (taken.token.kind ≡ kinds.Punctuator p)
+taken_at p from n =
+    (record { token = n.token; rest = record { tokens = n.others; names = from.names } },
+      ap (λ tokens. first_of_tokens tokens from.names) n.front, n.kind)
+
+pub no_mark_at : (p q : Punctuator) (from : Input) → NextIs p from.tokens → sameb punctuator.the_type q p ≡ false → mark q from ≡ None
+unfolding mark
+no_mark_at p q from n differs = let t = taken_at p from n in rw (t.1, t.2, differs) refl
+
+pub no_word_at : (p : Punctuator) (test : Keyword → Bool) (from : Input) → NextIs p from.tokens → word test from ≡ None
+unfolding word
+no_word_at p test from n = let t = taken_at p from n in rw (t.1, t.2) refl
+
+pub nothing_behind_at : (p : Punctuator) (from : Input) → NextIs p from.tokens → infix_mark p ≡ None → behind from ≡ None
+unfolding behind
+nothing_behind_at p from n none = let t = taken_at p from n in rw (t.1, t.2, none) refl
+
+pub behind_at : (p : Punctuator) (operator : operators.Infix) (from : Input) → NextIs p from.tokens → infix_mark p ≡ Some operator
+    → (found : TakenInfix) → behind from ≡ Some found → found.operator ≡ operator
+unfolding behind
+behind_at p operator from n some found e =
+    let t = taken_at p from n in
+    let known : behind from ≡ Some (record { operator = operator; rest = t.0.rest }) = rw (t.1, t.2, some) refl in
+    ap (λ (f : TakenInfix). f.operator) (same_Some found (record { operator = operator; rest = t.0.rest }) (sym e ∙ known))

@@ -214,6 +214,14 @@ unfoldable pub made : ℕ → ℕ → Place → ExprKind → Input → Option Be
 made limit level place kind rest = if nat_le (expression_depth (node place kind)) limit
     then Some (record { tree = node place kind; level = level; rest = rest }) else None
 
+-- a parenthesis and the beginning of a type behind it
+unfoldable pub begins_cast : Input → Bool
+begins_cast from = either (mark marks.OpenParenthesis from) false begins_type
+
+-- whether an expression of a category goes on with the operator, in one of the wanted category
+abbrev pub goes_on : ℕ → operators.Infix → ℕ → Bool
+goes_on wanted operator level = nat_le wanted (level_of operator) && nat_le (left_level operator) level
+
 module _ (limit : ℕ) (nested : Nested) where
   unfoldable pub arguments_from : ℕ → Reader (List Expr)
   arguments_from zero from = None
@@ -248,10 +256,6 @@ module _ (limit : ℕ) (nested : Nested) where
   unfoldable pub operand : ℕ → (Expr → ExprKind) → Place → Input → Option Begun
   operand level kind place inner = onward (nested.expression level inner) λ operand to.
       made limit unary_level place (kind operand) to
-
-  -- a parenthesis and the beginning of a type behind it
-  unfoldable pub begins_cast : Input → Bool
-  begins_cast from = either (mark marks.OpenParenthesis from) false begins_type
 
   unfoldable pub size_of : Place → Input → Option Begun
   size_of place outer = if begins_cast outer
@@ -309,10 +313,6 @@ module _ (limit : ℕ) (nested : Nested) where
   grown (operators.Assign operator) left inner =
       joined assignment_level assignment_level (kinds.Assignment left operator) left.place inner
   grown operators.Comma left inner = joined comma_level assignment_level (kinds.Comma left) left.place inner
-
-  -- whether an expression of a category goes on with the operator, in one of the wanted category
-  abbrev pub goes_on : ℕ → operators.Infix → ℕ → Bool
-  goes_on wanted operator level = nat_le wanted (level_of operator) && nat_le (left_level operator) level
 
   -- an expression with all operators behind it that belong to one of the wanted category
   unfoldable pub climb : ℕ → ℕ → Begun → Reading Expr
