@@ -3,3 +3,5 @@ mod Steps
 mod Terminals
 mod AttributesRead
 mod TypesRead
+mod Sizes
+mod ExpressionsRead
