@@ -25,13 +25,16 @@ use Rattle.c_syntax.specs.Depth.{expression_depth, specifier_depth, deepest}
 use Rattle.c_grammar.specs.Input.{Input, Named, mark, identifier}
 use Rattle.c_grammar.specs.Operators as operators
 use Rattle.c_grammar.specs.Operators.{Start, start, TakenInfix, behind, binary_level, logical_level, level_of, left_level}
-use Rattle.c_grammar.specs.Specifiers.{word, is_specifier_word}
+use Rattle.c_grammar.specs.Specifiers.{word, is_specifier_word, is_integer_word, is_modifier, is_qualifier, integer_type, Words, Pointers}
 use Rattle.c_grammar.specs.Expressions as grammar
 use Rattle.c_grammar.specs.Expressions.{node, Expression, Arguments, ArgumentList, Lengths, TypeNamed, Specified, SingleType, Enumerators, Constant}
 use Rattle.c_grammar.specs.Reading as reading
 use Rattle.c_grammar.specs.Reading.{turns, Nested, Begun, nested, made, begun, climb, expression_with, grown, goes_on, begins_type, begins_cast}
 use Rattle.c_grammar.proofs.Steps.{is_le, is_not_le}
-use Rattle.c_grammar.proofs.Terminals.{NextIs, next_is, no_mark_at, no_word_at, nothing_behind_at, behind_at, no_open_behind, other_mark, behind-turns, mark-turns, start-turns, identifier-turns}
+use Rattle.c_grammar.proofs.Terminals.{NextIs, next_is, no_mark_at, no_word_at, nothing_behind_at, behind_at, no_open_behind, other_mark, behind-turns, mark-turns, start-turns, identifier-turns, is_open, open_at_start, no_open_at_start, no_word_at_mark, no_mark_at_identifier, no_identifier_at_mark}
+use Rattle.c_grammar.proofs.TypesRead.{words-read, words-turns, word-passes, word-other, no-other, no_mark_at_word, none_too, modifier-specifier, qualifier-specifier, modifiers-words, modifiers-no_integer, some_named, pointers-read, pointers-turns, is_start, no_type_at_start, type_at_word, type_at, no_word_at_single}
+use Rattle.c_grammar.proofs.AttributesRead.{attributes-read, attributes-turns}
+use Rattle.c_grammar.proofs.Sizes.{expression-turns, arguments-turns, list-turns, lengths-turns, type-turns, specified-turns, single-turns, constants-turns, constant-turns, expression-deep}
 
 -- ---- what may stand behind an expression
 
@@ -126,10 +129,6 @@ settles_tighter level (operators.Assign o) (inr h) = omega arith
 settles_tighter level operators.Comma (inl h) = omega arith
 settles_tighter level operators.Comma (inr h) = omega arith
 
--- a category in which no operator makes an expression, or whose operators take tighter ones before them
-abbrev pub is_settled : ℕ → Type 0
-is_settled level = (level ≡ 1) ⊎ (level ≡ 2) ⊎ (level ≡ 13) ⊎ (level ≡ 14)
-
 settles_1 : Settles 1 1
 settles_1 operators.Subscript h = elim h [ inl a ↦ absurd (omega (arith, a)) | inr a ↦ absurd (omega (arith, a)) ]
 settles_1 operators.Member h = elim h [ inl a ↦ absurd (omega (arith, a)) | inr a ↦ absurd (omega (arith, a)) ]
@@ -166,3 +165,97 @@ settles_unary level low high operators.Comma h = omega arith
 
 pub settled : (level bound : ℕ) (from : Input) → Settles level bound → Follows level from → Ends bound from
 settled level bound from s f = record { opens = f.opens; operator = λ found is. s found.operator (f.operator found is) }
+
+-- ---- types and expressions begin with different tokens
+
+pub no_type_here : {level : ℕ} {from : Input} {tree : Expr} {to : Input} → Expression level from tree to → begins_type from ≡ false
+no_type_here (grammar.Expression.looser e) = no_type_here e
+no_type_here (grammar.Expression.integer {from = from} s) = no_type_at_start from _ s refl
+no_type_here (grammar.Expression.character {from = from} s) = no_type_at_start from _ s refl
+no_type_here (grammar.Expression.null_pointer {from = from} s) = no_type_at_start from _ s refl
+no_type_here (grammar.Expression.name {from = from} s) = no_type_at_start from _ s refl
+no_type_here (grammar.Expression.parenthesized {from = from} s e m) = no_type_at_start from _ s refl
+no_type_here (grammar.Expression.call {from = from} s m a) = no_type_at_start from _ s refl
+no_type_here (grammar.Expression.atomic {from = from} s m a) = no_type_at_start from _ s refl
+no_type_here (grammar.Expression.subscript l c e m) = no_type_here l
+no_type_here (grammar.Expression.member l c n) = no_type_here l
+no_type_here (grammar.Expression.pointer_member l c n) = no_type_here l
+no_type_here (grammar.Expression.postfix l c) = no_type_here l
+no_type_here (grammar.Expression.prefix {from = from} s e) = no_type_at_start from _ s refl
+no_type_here (grammar.Expression.unary {from = from} s e) = no_type_at_start from _ s refl
+no_type_here (grammar.Expression.size_of_expr {from = from} s e) = no_type_at_start from _ s refl
+no_type_here (grammar.Expression.size_of_type {from = from} s o t m) = no_type_at_start from _ s refl
+no_type_here (grammar.Expression.align_of {from = from} s o t m) = no_type_at_start from _ s refl
+no_type_here (grammar.Expression.cast {from = from} s t m e) = no_type_at_start from _ s refl
+no_type_here (grammar.Expression.binary l c r) = no_type_here l
+no_type_here (grammar.Expression.logical l c r) = no_type_here l
+no_type_here (grammar.Expression.conditional t c a m b) = no_type_here t
+no_type_here (grammar.Expression.assignment l c r) = no_type_here l
+no_type_here (grammar.Expression.comma l c r) = no_type_here l
+
+-- behind a parenthesis that begins an expression
+open_is : (from : Input) (place : Place) (inner : Input) → grammar.Starts from operators.Parenthesis place inner
+    → mark marks.OpenParenthesis from ≡ Some inner
+open_is from place inner s = open_at_start from _ s refl
+
+-- a token that begins an expression and is no parenthesis
+no_cast_at : (from : Input) (begin : Start) (place : Place) (rest : Input) → grammar.Starts from begin place rest
+    → is_open begin ≡ false → begins_cast from ≡ false
+unfolding begins_cast
+no_cast_at from begin place rest s other = rw (no_open_at_start from _ s other) refl
+
+-- no cast begins a unary or postfix expression
+pub no_cast_here : {level : ℕ} {from : Input} {tree : Expr} {to : Input} → Expression level from tree to → 14 ≤ level → begins_cast from ≡ false
+unfolding begins_cast
+no_cast_here (grammar.Expression.looser e) h = no_cast_here e (omega arith)
+no_cast_here (grammar.Expression.integer {from = from} s) h = no_cast_at from _ _ _ s refl
+no_cast_here (grammar.Expression.character {from = from} s) h = no_cast_at from _ _ _ s refl
+no_cast_here (grammar.Expression.null_pointer {from = from} s) h = no_cast_at from _ _ _ s refl
+no_cast_here (grammar.Expression.name {from = from} s) h = no_cast_at from _ _ _ s refl
+no_cast_here (grammar.Expression.parenthesized {from = from} {place = place} {inner = inner} s e m) h =
+    rw (open_is from place inner s) (no_type_here e)
+no_cast_here (grammar.Expression.call {from = from} s m a) h = no_cast_at from _ _ _ s refl
+no_cast_here (grammar.Expression.atomic {from = from} s m a) h = no_cast_at from _ _ _ s refl
+no_cast_here (grammar.Expression.subscript l c e m) h = no_cast_here l (omega arith)
+no_cast_here (grammar.Expression.member l c n) h = no_cast_here l (omega arith)
+no_cast_here (grammar.Expression.pointer_member l c n) h = no_cast_here l (omega arith)
+no_cast_here (grammar.Expression.postfix l c) h = no_cast_here l (omega arith)
+no_cast_here (grammar.Expression.prefix {from = from} s e) h = no_cast_at from _ _ _ s refl
+no_cast_here (grammar.Expression.unary {from = from} s e) h = no_cast_at from _ _ _ s refl
+no_cast_here (grammar.Expression.size_of_expr {from = from} s e) h = no_cast_at from _ _ _ s refl
+no_cast_here (grammar.Expression.size_of_type {from = from} s o t m) h = no_cast_at from _ _ _ s refl
+no_cast_here (grammar.Expression.align_of {from = from} s o t m) h = no_cast_at from _ _ _ s refl
+no_cast_here (grammar.Expression.cast s t m e) h = absurd (omega (arith, h))
+no_cast_here (grammar.Expression.binary {operator = operator} l c r) h = absurd (omega (arith, h, binary-levels operator))
+no_cast_here (grammar.Expression.logical {operator = operator} l c r) h = absurd (omega (arith, h, logical-levels operator))
+no_cast_here (grammar.Expression.conditional t c a m b) h = absurd (omega (arith, h))
+no_cast_here (grammar.Expression.assignment l c r) h = absurd (omega (arith, h))
+no_cast_here (grammar.Expression.comma l c r) h = absurd (omega (arith, h))
+
+-- a single type begins a type
+single_here : {from : Input} {type : TypeSpecifier} {to : Input} → SingleType from type to → (begins_type from ≡ true) × (word is_specifier_word from ≡ None)
+single_here (grammar.SingleType.void {from = from} s) = (type_at from _ s refl, no_word_at_single from _ s refl)
+single_here (grammar.SingleType.bool {from = from} s) = (type_at from _ s refl, no_word_at_single from _ s refl)
+single_here (grammar.SingleType.typedef {from = from} s) = (type_at from _ s refl, no_word_at_single from _ s refl)
+single_here (grammar.SingleType.header {from = from} s) = (type_at from _ s refl, no_word_at_single from _ s refl)
+single_here (grammar.SingleType.struct {from = from} s a n) = (type_at from _ s refl, no_word_at_single from _ s refl)
+single_here (grammar.SingleType.union {from = from} s a n) = (type_at from _ s refl, no_word_at_single from _ s refl)
+single_here (grammar.SingleType.enum {from = from} s a n) = (type_at from _ s refl, no_word_at_single from _ s refl)
+single_here (grammar.SingleType.enumeration {from = from} s a n o es) = (type_at from _ s refl, no_word_at_single from _ s refl)
+single_here (grammar.SingleType.untagged_enumeration {from = from} s a o es) = (type_at from _ s refl, no_word_at_single from _ s refl)
+
+words_here : {from : Input} {words : List Keyword} {to : Input} → Words is_specifier_word from words to → list_any is_integer_word words ≡ true → begins_type from ≡ true
+words_here Words.none some = absurd (false≢true some)
+words_here (Words.more {from = from} {taken = taken} w others) some = type_at_word from taken w
+
+modifiers_here : {from : Input} {words : List Keyword} {to : Input} → Words is_modifier from words to → begins_type to ≡ true → begins_type from ≡ true
+modifiers_here Words.none known = known
+modifiers_here (Words.more {from = from} {taken = taken} w others) known =
+    type_at_word from taken (word-other is_modifier is_specifier_word from taken w (modifier-specifier taken.word (word-passes is_modifier from taken w)))
+
+pub specified_here : {from : Input} {words : List Keyword} {type : TypeSpecifier} {to : Input} → Specified from words type to → begins_type from ≡ true
+specified_here (grammar.Specified.integer_words {words = words} {type = type} w e) = words_here w (some_named words type e)
+specified_here (grammar.Specified.single_type a s b) = modifiers_here a (single_here s).0
+
+pub type_here : {from : Input} {name : TypeName} {to : Input} → TypeNamed from name to → begins_type from ≡ true
+type_here (grammar.TypeNamed.type_named s q p l) = specified_here s

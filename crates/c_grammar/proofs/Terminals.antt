@@ -11,12 +11,13 @@ use Rattle.c_lexer.specs.declared.punctuator.Punctuator.TheVariants as marks
 use Rattle.c_lexer.specs.declared.keyword.Keyword.{Keyword}
 use Rattle.c_lexer.specs.contracts.punctuator.Punctuator as punctuator
 use Rattle.c_grammar.specs.declared.names.NameEntry.{NameEntry}
-use Rattle.c_grammar.specs.Names.{word_of}
+use Rattle.c_lexer.specs.declared.keyword.Keyword.TheVariants as words
+use Rattle.c_grammar.specs.Names.{Word, TypedefName, HeaderName, OperationName, OrdinaryName, NoName, word_of}
 use Rattle.c_grammar.specs.Marks.{is_mark}
 use Rattle.c_grammar.specs.Input.{Input, Taken, Named, first_of_tokens, next, taken_if, mark, is_identifier, name_of, identifier}
 use Rattle.c_grammar.specs.Attributes.{ReadText, text_by, string}
 use Rattle.c_grammar.specs.Operators as operators
-use Rattle.c_grammar.specs.Operators.{TakenInfix, Started, infix_by, infix_mark, behind, start_by, start}
+use Rattle.c_grammar.specs.Operators.{TakenInfix, Started, infix_by, infix_mark, behind, Start, start_by, start_word, start}
 use Rattle.c_grammar.specs.Specifiers.{TakenWord, TypeStarted, word_by, word, type_by, type_start}
 use Rattle.c_grammar.specs.Reading.{turns, begins_type, is_type, either}
 use Rattle.c_grammar.proofs.Steps.{into, into_if}
@@ -244,3 +245,43 @@ behind_at p operator from n some found e =
     let t = taken_at p from n in
     let known : behind from ≡ Some (record { operator = operator; rest = t.0.rest }) = rw (t.1, t.2, some) refl in
     ap (λ (f : TakenInfix). f.operator) (same_Some found (record { operator = operator; rest = t.0.rest }) (sym e ∙ known))
+
+-- whether an expression begins with a parenthesis
+abbrev pub is_open : Start → Bool
+is_open operators.Parenthesis = true
+is_open _ = false
+
+open_start : (kind : TokenKind) (meaning : Word) (text : List ℕ) → is_open (start_by kind meaning text) ≡ true → is_mark marks.OpenParenthesis kind ≡ true
+open_start (kinds.Punctuator marks.OpenParenthesis) meaning text e = refl
+open_start (kinds.Punctuator _) meaning text e = absurd (false≢true e)
+open_start (kinds.Keyword words.Sizeof) meaning text e = absurd (false≢true e)
+open_start (kinds.Keyword words.Alignof) meaning text e = absurd (false≢true e)
+open_start (kinds.Keyword _) meaning text e = absurd (false≢true e)
+open_start (kinds.Integer constant) meaning text e = absurd (false≢true e)
+open_start (kinds.Character constant) meaning text e = absurd (false≢true e)
+open_start kinds.NullPointer meaning text e = absurd (false≢true e)
+open_start _ meaning text e = absurd (word_open meaning text e)
+  where
+    word_open : (meaning : Word) (text : List ℕ) → is_open (start_word meaning text) ≡ true → ⊥
+    word_open OrdinaryName text e = false≢true e
+    word_open (OperationName operation) text e = false≢true e
+    word_open TypedefName text e = false≢true e
+    word_open (HeaderName type) text e = false≢true e
+    word_open NoName text e = false≢true e
+
+closed_start : (kind : TokenKind) (meaning : Word) (text : List ℕ) → is_open (start_by kind meaning text) ≡ false → is_mark marks.OpenParenthesis kind ≡ false
+closed_start (kinds.Punctuator marks.OpenParenthesis) meaning text e = absurd (false≢true (sym e))
+closed_start (kinds.Punctuator _) meaning text e = refl
+closed_start _ meaning text e = refl
+
+pub open_at_start : (from : Input) (started : Started) → start from ≡ Some started → is_open started.start ≡ true
+    → mark marks.OpenParenthesis from ≡ Some started.rest
+unfolding mark
+open_at_start from started e known = let b = begins from started e in
+    rw (b.next, open_start b.taken.token.kind _ b.taken.token.text (ap is_open b.start ∙ known), b.rest) refl
+
+pub no_open_at_start : (from : Input) (started : Started) → start from ≡ Some started → is_open started.start ≡ false
+    → mark marks.OpenParenthesis from ≡ None
+unfolding mark
+no_open_at_start from started e known = let b = begins from started e in
+    rw (b.next, closed_start b.taken.token.kind _ b.taken.token.text (ap is_open b.start ∙ known)) refl
