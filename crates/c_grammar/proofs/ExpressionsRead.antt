@@ -259,3 +259,95 @@ specified_here (grammar.Specified.single_type a s b) = modifiers_here a (single_
 
 pub type_here : {from : Input} {name : TypeName} {to : Input} → TypeNamed from name to → begins_type from ≡ true
 type_here (grammar.TypeNamed.type_named s q p l) = specified_here s
+
+-- ---- how an expression is read: the first operand, and then one operator after another
+
+made_is : (limit level : ℕ) (place : Place) (kind : ExprKind) (rest : Input) → expression_depth (node place kind) ≤ limit
+    → made limit level place kind rest ≡ Some (record { tree = node place kind; level = level; rest = rest })
+unfolding made
+made_is limit level place kind rest h = rw (is_le h) refl
+
+module _ (limit : ℕ) where
+  -- Reading in a wanted category comes by way of the tree, of a category that is at least as tight, and then goes on.
+  record Climbs (room wanted : ℕ) (from : Input) (tree : Expr) (level : ℕ) (to : Input) : Type 0 where
+    reached : ℕ
+    at_least : level ≤ reached
+    left : ℕ
+    enough : turns to < left
+    reads : expression_with limit (nested limit room) wanted from
+        ≡ climb limit (nested limit room) wanted left (record { tree = tree; level = reached; rest = to })
+
+  -- the same of a looser category
+  loosened : (room wanted : ℕ) (from : Input) (tree : Expr) (level : ℕ) (to : Input) → Climbs room wanted from tree (suc level) to
+      → Climbs room wanted from tree level to
+  loosened room wanted from tree level to c = record {
+      reached = c.reached; at_least = omega (arith, c.at_least); left = c.left; enough = c.enough; reads = c.reads;
+    }
+
+  begins_climb : (room wanted level : ℕ) (from : Input) (tree : Expr) (to : Input)
+      → begun limit (nested limit room) from ≡ Some (record { tree = tree; level = level; rest = to }) → wanted ≤ level
+      → Climbs room wanted from tree level to
+  unfolding expression_with
+  begins_climb room wanted level from tree to b h = record {
+      reached = level; at_least = omega arith; left = suc (turns to); enough = omega arith;
+      reads = rw (b, is_le h) refl;
+    }
+
+  goes : (wanted : ℕ) (operator : operators.Infix) (level : ℕ) → wanted ≤ level_of operator → left_level operator ≤ level
+      → goes_on wanted operator level ≡ true
+  goes wanted operator level a b = rw (is_le a, is_le b) refl
+
+  climb_step : (room wanted left reached : ℕ) (tree grown_tree : Expr) (operator : operators.Infix) (before inner to : Input)
+      → grammar.Continues before operator inner → goes_on wanted operator reached ≡ true
+      → grown limit (nested limit room) operator tree inner ≡ Some (record { tree = grown_tree; level = level_of operator; rest = to })
+      → climb limit (nested limit room) wanted (suc left) (record { tree = tree; level = reached; rest = before })
+      ≡ climb limit (nested limit room) wanted left (record { tree = grown_tree; level = level_of operator; rest = to })
+  unfolding climb
+  climb_step room wanted left reached tree grown_tree operator before inner to c g e = rw (c, g, e) refl
+
+  grows_from : (room wanted : ℕ) (from : Input) (tree grown_tree : Expr) (operator : operators.Infix) (before inner to : Input)
+      (reached left : ℕ) → turns before < left → left_level operator ≤ reached
+      → expression_with limit (nested limit room) wanted from
+        ≡ climb limit (nested limit room) wanted left (record { tree = tree; level = reached; rest = before })
+      → grammar.Continues before operator inner → wanted ≤ level_of operator
+      → grown limit (nested limit room) operator tree inner ≡ Some (record { tree = grown_tree; level = level_of operator; rest = to })
+      → turns to ≤ turns inner → Climbs room wanted from grown_tree (level_of operator) to
+  grows_from room wanted from tree grown_tree operator before inner to reached zero enough tight e c h g t =
+      absurd (omega (arith, enough))
+  grows_from room wanted from tree grown_tree operator before inner to reached (suc left) enough tight e c h g t = record {
+      reached = level_of operator; at_least = omega arith; left = left; enough = omega (arith, enough, t, behind-turns before _ c);
+      reads = e ∙ climb_step room wanted left reached tree grown_tree operator before inner to c (goes wanted operator reached h tight) g;
+    }
+
+  grows : (room wanted : ℕ) (from : Input) (tree grown_tree : Expr) (level : ℕ) (operator : operators.Infix) (before inner to : Input)
+      → Climbs room wanted from tree level before → grammar.Continues before operator inner → wanted ≤ level_of operator
+      → left_level operator ≤ level
+      → grown limit (nested limit room) operator tree inner ≡ Some (record { tree = grown_tree; level = level_of operator; rest = to })
+      → turns to ≤ turns inner → Climbs room wanted from grown_tree (level_of operator) to
+  grows room wanted from tree grown_tree level operator before inner to k c h tight g t =
+      grows_from room wanted from tree grown_tree operator before inner to k.reached k.left k.enough (omega (arith, tight, k.at_least))
+      k.reads c h g t
+
+  stops_at : (room wanted left : ℕ) (so_far : Begun) (o : Option TakenInfix) → behind so_far.rest ≡ o → Ends wanted so_far.rest
+      → climb limit (nested limit room) wanted (suc left) so_far ≡ Some (so_far.tree, so_far.rest)
+  unfolding climb
+  stops_at room wanted left so_far None e ends = rw e refl
+  stops_at room wanted left so_far (Some found) e ends = rw (e, is_not_le (ends.operator found e)) refl
+
+  climbed : (room wanted : ℕ) (from : Input) (tree : Expr) (to : Input) (reached left : ℕ) → turns to < left
+      → expression_with limit (nested limit room) wanted from
+        ≡ climb limit (nested limit room) wanted left (record { tree = tree; level = reached; rest = to })
+      → Ends wanted to → expression_with limit (nested limit room) wanted from ≡ Some (tree, to)
+  climbed room wanted from tree to reached zero enough e ends = absurd (omega (arith, enough))
+  climbed room wanted from tree to reached (suc left) enough e ends =
+      e ∙ stops_at room wanted left (record { tree = tree; level = reached; rest = to }) (behind to) refl ends
+
+  -- where nothing goes on, the tree is what is read
+  full : (level : ℕ) (from : Input) (tree : Expr) (to : Input)
+      → ((room : ℕ) → expression_depth tree ≤ suc room → Climbs room level from tree level to) → (room : ℕ)
+      → expression_depth tree ≤ room → 1 ≤ expression_depth tree → Ends level to
+      → (nested limit room).expression level from ≡ Some (tree, to)
+  unfolding nested
+  full level from tree to c zero h some ends = absurd (omega (arith, h, some))
+  full level from tree to c (suc room) h some ends =
+      let k = c room h in climbed room level from tree to k.reached k.left k.enough k.reads ends
