@@ -7,7 +7,9 @@ use Rattle.std.specs.List.{list_all, list_any, filter}
 use Rattle.std.proofs.lemmas.Bool.{false≢true}
 use Rattle.std.proofs.lemmas.Option.{none-some, same_Some}
 use Rattle.rc_text.specs.declared.place.Place.{Place}
+use Rattle.c_lexer.specs.declared.atomic_operation.AtomicOperation.{AtomicOperation}
 use Rattle.c_lexer.specs.declared.keyword.Keyword.{Keyword}
+use Rattle.c_syntax.specs.declared.name.Name.{Name}
 use Rattle.c_lexer.specs.declared.punctuator.Punctuator.{Punctuator}
 use Rattle.c_lexer.specs.declared.punctuator.Punctuator.TheVariants as marks
 use Rattle.c_lexer.specs.contracts.punctuator.Punctuator as punctuator
@@ -16,20 +18,26 @@ use Rattle.c_syntax.specs.declared.operator.BinaryOperator.TheVariants as binari
 use Rattle.c_syntax.specs.declared.operator.LogicalOperator.{LogicalOperator}
 use Rattle.c_syntax.specs.declared.operator.LogicalOperator.TheVariants as logicals
 use Rattle.c_syntax.specs.declared.specifier.TypeSpecifier.{TypeSpecifier}
-use Rattle.c_syntax.specs.declared.specifier.Enumerator.{Enumerator}
+use Rattle.c_syntax.specs.declared.specifier.TypeSpecifier.TheVariants as specifiers
+use Rattle.c_syntax.specs.declared.specifier.IntegerType.{IntegerType}
+use Rattle.c_syntax.specs.declared.specifier.RecordKind.{RecordKind}
+use Rattle.c_syntax.specs.declared.specifier.EnumDefinition.{EnumDefinition, roll-EnumDefinition}
+use Rattle.c_syntax.specs.declared.specifier.Enumerator.{Enumerator, roll-Enumerator}
+use Rattle.c_syntax.specs.declared.attribute.Attribute.{Attribute}
+use Rattle.c_grammar.specs.declared.names.NameKind.TheVariants as names
 use Rattle.c_syntax.specs.declared.expr.Expr.{Expr}
 use Rattle.c_syntax.specs.declared.expr.ExprKind.{ExprKind}
 use Rattle.c_syntax.specs.declared.expr.ExprKind.TheVariants as kinds
 use Rattle.c_syntax.specs.declared.expr.TypeName.{TypeName}
 use Rattle.c_syntax.specs.Depth.{expression_depth, specifier_depth, deepest}
-use Rattle.c_grammar.specs.Input.{Input, Named, mark, identifier}
+use Rattle.c_grammar.specs.Input.{Input, Named, mark, identifier, declares}
 use Rattle.c_grammar.specs.Operators as operators
 use Rattle.c_grammar.specs.Operators.{Start, start, TakenInfix, behind, binary_level, logical_level, level_of, left_level}
-use Rattle.c_grammar.specs.Specifiers.{word, is_specifier_word, is_integer_word, is_modifier, is_qualifier, integer_type, Words, Pointers}
+use Rattle.c_grammar.specs.Specifiers.{word, is_specifier_word, is_integer_word, is_modifier, is_qualifier, integer_type, TypeStart, Words, Pointers}
 use Rattle.c_grammar.specs.Expressions as grammar
 use Rattle.c_grammar.specs.Expressions.{node, Expression, Arguments, ArgumentList, Lengths, TypeNamed, Specified, SingleType, Enumerators, Constant}
 use Rattle.c_grammar.specs.Reading as reading
-use Rattle.c_grammar.specs.Reading.{turns, Nested, Begun, nested, made, begun, climb, expression_with, grown, goes_on, begins_type, begins_cast}
+use Rattle.c_grammar.specs.Reading.{turns, Reader, Nested, Begun, nested, made, begun, climb, expression_with, grown, goes_on, begins_type, begins_cast}
 use Rattle.c_grammar.proofs.Steps.{is_le, is_not_le}
 use Rattle.c_grammar.proofs.Terminals.{NextIs, next_is, no_mark_at, no_word_at, nothing_behind_at, behind_at, no_open_behind, other_mark, behind-turns, mark-turns, start-turns, identifier-turns, is_open, open_at_start, no_open_at_start, no_word_at_mark, no_mark_at_identifier, no_identifier_at_mark}
 use Rattle.c_grammar.proofs.TypesRead.{words-read, words-turns, word-passes, word-other, no-other, no_mark_at_word, none_too, modifier-specifier, qualifier-specifier, modifiers-words, modifiers-no_integer, some_named, pointers-read, pointers-turns, is_start, no_type_at_start, type_at_word, type_at, no_word_at_single}
@@ -351,3 +359,264 @@ module _ (limit : ℕ) where
   full level from tree to c zero h some ends = absurd (omega (arith, h, some))
   full level from tree to c (suc room) h some ends =
       let k = c room h in climbed room level from tree to k.reached k.left k.enough k.reads ends
+
+  -- ---- what each production reads, once its parts are read
+
+  module _ (n : Nested) where
+    begun_start : (from : Input) (begin : Start) (place : Place) (rest : Input) → grammar.Starts from begin place rest
+        → begun limit n from ≡ reading.begun_by limit n begin place rest
+    unfolding begun
+    begun_start from begin place rest s = rw s refl
+
+    name_is : (text : List ℕ) (place : Place) (rest : Input) → mark marks.OpenParenthesis rest ≡ None
+        → expression_depth (node place (kinds.Name text)) ≤ limit
+        → reading.begun_by limit n (operators.Ordinary text) place rest
+        ≡ Some (record { tree = node place (kinds.Name text); level = 15; rest = rest })
+    name_is text place rest none h = rw none (made_is limit 15 place (kinds.Name text) rest h)
+
+    call_is : (kind : List Expr → ExprKind) (place : Place) (inner : Input) (arguments : List Expr) (to : Input)
+        → reading.arguments limit n inner ≡ Some (arguments, to) → expression_depth (node place (kind arguments)) ≤ limit
+        → reading.call limit n kind place inner ≡ Some (record { tree = node place (kind arguments); level = 15; rest = to })
+    unfolding reading.call
+    call_is kind place inner arguments to a h = rw a (made_is limit 15 place (kind arguments) to h)
+
+    called_is : (text : List ℕ) (place : Place) (rest inner : Input) (arguments : List Expr) (to : Input)
+        → mark marks.OpenParenthesis rest ≡ Some inner → reading.arguments limit n inner ≡ Some (arguments, to)
+        → expression_depth (node place (kinds.Call text arguments)) ≤ limit
+        → reading.begun_by limit n (operators.Ordinary text) place rest
+        ≡ Some (record { tree = node place (kinds.Call text arguments); level = 15; rest = to })
+    called_is text place rest inner arguments to o a h = rw o (call_is (kinds.Call text) place inner arguments to a h)
+
+    atomic_is : (operation : AtomicOperation) (place : Place) (rest inner : Input) (arguments : List Expr) (to : Input)
+        → mark marks.OpenParenthesis rest ≡ Some inner → reading.arguments limit n inner ≡ Some (arguments, to)
+        → expression_depth (node place (kinds.Atomic operation arguments)) ≤ limit
+        → reading.begun_by limit n (operators.Operation operation) place rest
+        ≡ Some (record { tree = node place (kinds.Atomic operation arguments); level = 15; rest = to })
+    atomic_is operation place rest inner arguments to o a h =
+        rw o (call_is (kinds.Atomic operation) place inner arguments to a h)
+
+    parenthesized_is : (place : Place) (inner : Input) (tree : Expr) (behind_tree to : Input) → begins_type inner ≡ false
+        → n.expression 0 inner ≡ Some (tree, behind_tree) → mark marks.CloseParenthesis behind_tree ≡ Some to
+        → expression_depth (node place (kinds.Parenthesized tree)) ≤ limit
+        → reading.begun_by limit n operators.Parenthesis place inner
+        ≡ Some (record { tree = node place (kinds.Parenthesized tree); level = 15; rest = to })
+    unfolding reading.parenthesized
+    parenthesized_is place inner tree behind_tree to none e m h =
+        rw (none, e, m) (made_is limit 15 place (kinds.Parenthesized tree) to h)
+
+    cast_is : (place : Place) (inner : Input) (target : TypeName) (behind_target rest : Input) (operand : Expr) (to : Input)
+        → begins_type inner ≡ true → n.type_name inner ≡ Some (target, behind_target)
+        → mark marks.CloseParenthesis behind_target ≡ Some rest → n.expression 13 rest ≡ Some (operand, to)
+        → expression_depth (node place (kinds.Cast target operand)) ≤ limit
+        → reading.begun_by limit n operators.Parenthesis place inner
+        ≡ Some (record { tree = node place (kinds.Cast target operand); level = 13; rest = to })
+    unfolding reading.cast
+    cast_is place inner target behind_target rest operand to some t m e h =
+        rw (some, t, m, e) (made_is limit 13 place (kinds.Cast target operand) to h)
+
+    operand_is : (level : ℕ) (kind : Expr → ExprKind) (place : Place) (inner : Input) (operand : Expr) (to : Input)
+        → n.expression level inner ≡ Some (operand, to) → expression_depth (node place (kind operand)) ≤ limit
+        → reading.operand limit n level kind place inner ≡ Some (record { tree = node place (kind operand); level = 14; rest = to })
+    unfolding reading.operand
+    operand_is level kind place inner operand to e h = rw e (made_is limit 14 place (kind operand) to h)
+
+    size_of_expr_is : (place : Place) (inner : Input) (operand : Expr) (to : Input) → begins_cast inner ≡ false
+        → n.expression 14 inner ≡ Some (operand, to) → expression_depth (node place (kinds.SizeOfExpr operand)) ≤ limit
+        → reading.size_of limit n place inner ≡ Some (record { tree = node place (kinds.SizeOfExpr operand); level = 14; rest = to })
+    unfolding reading.size_of
+    size_of_expr_is place inner operand to none e h = rw none (operand_is 14 kinds.SizeOfExpr place inner operand to e h)
+
+    of_type_is : (kind : TypeName → ExprKind) (place : Place) (inner : Input) (name : TypeName) (behind_name to : Input)
+        → n.type_name inner ≡ Some (name, behind_name) → mark marks.CloseParenthesis behind_name ≡ Some to
+        → expression_depth (node place (kind name)) ≤ limit
+        → reading.of_type limit n kind place inner ≡ Some (record { tree = node place (kind name); level = 14; rest = to })
+    unfolding reading.of_type
+    of_type_is kind place inner name behind_name to t m h = rw (t, m) (made_is limit 14 place (kind name) to h)
+
+    size_of_type_is : (place : Place) (outer inner : Input) (name : TypeName) (behind_name to : Input)
+        → mark marks.OpenParenthesis outer ≡ Some inner → begins_type inner ≡ true
+        → n.type_name inner ≡ Some (name, behind_name) → mark marks.CloseParenthesis behind_name ≡ Some to
+        → expression_depth (node place (kinds.SizeOfType name)) ≤ limit
+        → reading.size_of limit n place outer ≡ Some (record { tree = node place (kinds.SizeOfType name); level = 14; rest = to })
+    unfolding reading.size_of begins_cast
+    size_of_type_is place outer inner name behind_name to o some t m h =
+        rw (o, some) (of_type_is kinds.SizeOfType place inner name behind_name to t m h)
+
+    align_of_is : (place : Place) (outer inner : Input) (name : TypeName) (behind_name to : Input)
+        → mark marks.OpenParenthesis outer ≡ Some inner
+        → n.type_name inner ≡ Some (name, behind_name) → mark marks.CloseParenthesis behind_name ≡ Some to
+        → expression_depth (node place (kinds.AlignOf name)) ≤ limit
+        → reading.begun_by limit n operators.AlignOf place outer ≡ Some (record { tree = node place (kinds.AlignOf name); level = 14; rest = to })
+    align_of_is place outer inner name behind_name to o t m h =
+        rw o (of_type_is kinds.AlignOf place inner name behind_name to t m h)
+
+    joined_is : (level right : ℕ) (kind : Expr → ExprKind) (place : Place) (inner : Input) (second : Expr) (to : Input)
+        → n.expression right inner ≡ Some (second, to) → expression_depth (node place (kind second)) ≤ limit
+        → reading.joined limit n level right kind place inner ≡ Some (record { tree = node place (kind second); level = level; rest = to })
+    unfolding reading.joined
+    joined_is level right kind place inner second to e h = rw e (made_is limit level place (kind second) to h)
+
+    conditional_is : (test : Expr) (inner : Input) (first : Expr) (colon rest : Input) (second : Expr) (to : Input)
+        → n.expression 0 inner ≡ Some (first, colon) → mark marks.Colon colon ≡ Some rest
+        → n.expression 2 rest ≡ Some (second, to) → expression_depth (node test.place (kinds.Conditional test first second)) ≤ limit
+        → reading.conditional limit n test inner
+        ≡ Some (record { tree = node test.place (kinds.Conditional test first second); level = 2; rest = to })
+    unfolding reading.conditional
+    conditional_is test inner first colon rest second to a m b h =
+        rw (a, m) (joined_is 2 2 (kinds.Conditional test first) test.place rest second to b h)
+
+    subscript_is : (array : Expr) (inner : Input) (index : Expr) (close to : Input) → n.expression 0 inner ≡ Some (index, close)
+        → mark marks.CloseBracket close ≡ Some to → expression_depth (node array.place (kinds.Subscript array index)) ≤ limit
+        → reading.subscript limit n array inner
+        ≡ Some (record { tree = node array.place (kinds.Subscript array index); level = 15; rest = to })
+    unfolding reading.subscript
+    subscript_is array inner index close to e m h =
+        rw (e, m) (made_is limit 15 array.place (kinds.Subscript array index) to h)
+
+    member_is : (kind : Name → ExprKind) (place : Place) (inner : Input) (named : Named) → identifier inner ≡ Some named
+        → expression_depth (node place (kind named.name)) ≤ limit
+        → reading.member limit n kind place inner ≡ Some (record { tree = node place (kind named.name); level = 15; rest = named.rest })
+    unfolding reading.member
+    member_is kind place inner named e h = rw e (made_is limit 15 place (kind named.name) named.rest h)
+
+    arguments_none : (inner to : Input) → mark marks.CloseParenthesis inner ≡ Some to → reading.arguments limit n inner ≡ Some ([], to)
+    unfolding reading.arguments
+    arguments_none inner to m = rw m refl
+
+    arguments_some : (inner : Input) (arguments : List Expr) (to : Input) → mark marks.CloseParenthesis inner ≡ None
+        → reading.arguments_from limit n (turns inner) inner ≡ Some (arguments, to) → reading.arguments limit n inner ≡ Some (arguments, to)
+    unfolding reading.arguments
+    arguments_some inner arguments to none a = rw none a
+
+    last_argument_is : (left : ℕ) (from : Input) (argument : Expr) (behind_it to : Input)
+        → n.expression 1 from ≡ Some (argument, behind_it) → mark marks.CloseParenthesis behind_it ≡ Some to
+        → reading.arguments_from limit n (suc left) from ≡ Some (argument ∷ [], to)
+    unfolding reading.arguments_from
+    last_argument_is left from argument behind_it to e m =
+        rw (e, other_mark _ marks.Comma behind_it to m refl, m) refl
+
+    more_arguments_are : (left : ℕ) (from : Input) (argument : Expr) (behind_it inner : Input) (arguments : List Expr) (to : Input)
+        → n.expression 1 from ≡ Some (argument, behind_it) → mark marks.Comma behind_it ≡ Some inner
+        → reading.arguments_from limit n left inner ≡ Some (arguments, to)
+        → reading.arguments_from limit n (suc left) from ≡ Some (argument ∷ arguments, to)
+    unfolding reading.arguments_from
+    more_arguments_are left from argument behind_it inner arguments to e m a = rw (e, m, a) refl
+
+-- ---- what each production of types reads, once its parts are read
+
+-- what may stand behind a type's own words
+pub record EndsType (from : Input) : Type 0 where
+  pub words : word is_specifier_word from ≡ None
+  pub brace : mark marks.OpenBrace from ≡ None
+
+module _ (expression : ℕ → Reader Expr) where
+  no_more_lengths : (left : ℕ) (from : Input) → mark marks.OpenBracket from ≡ None
+      → reading.lengths_from expression (suc left) from ≡ Some ([], from)
+  unfolding reading.lengths_from
+  no_more_lengths left from none = rw none refl
+
+  more_lengths_are : (left : ℕ) (from inner : Input) (length : Expr) (close rest : Input) (lengths : List Expr) (to : Input)
+      → mark marks.OpenBracket from ≡ Some inner → expression 2 inner ≡ Some (length, close)
+      → mark marks.CloseBracket close ≡ Some rest → reading.lengths_from expression left rest ≡ Some (lengths, to)
+      → reading.lengths_from expression (suc left) from ≡ Some (length ∷ lengths, to)
+  unfolding reading.lengths_from
+  more_lengths_are left from inner length close rest lengths to o e m l = rw (o, e, m, l) refl
+
+  lengths_are : (from : Input) (lengths : List Expr) (to : Input) → reading.lengths_from expression (suc (turns from)) from ≡ Some (lengths, to)
+      → reading.lengths expression from ≡ Some (lengths, to)
+  unfolding reading.lengths
+  lengths_are from lengths to l = l
+
+  implicit_is : (from : Input) (named : Named) → identifier from ≡ Some named → mark marks.Assign named.rest ≡ None
+      → reading.constant expression from ≡ Some (roll-Enumerator (record { name = named.name; value = None }),
+        declares named.rest named.name.text names.Ordinary)
+  unfolding reading.constant
+  implicit_is from named n none = rw (n, none) refl
+
+  valued_is : (from : Input) (named : Named) (inner : Input) (value : Expr) (rest : Input) → identifier from ≡ Some named
+      → mark marks.Assign named.rest ≡ Some inner → expression 2 inner ≡ Some (value, rest)
+      → reading.constant expression from ≡ Some (roll-Enumerator (record { name = named.name; value = Some value }),
+        declares rest named.name.text names.Ordinary)
+  unfolding reading.constant
+  valued_is from named inner value rest n m e = rw (n, m, e) refl
+
+  last_constant_is : (left : ℕ) (from : Input) (one : Enumerator) (rest to : Input) → reading.constant expression from ≡ Some (one, rest)
+      → mark marks.CloseBrace rest ≡ Some to → reading.enumerators_from expression (suc left) from ≡ Some (one ∷ [], to)
+  unfolding reading.enumerators_from
+  last_constant_is left from one rest to c m = rw (c, other_mark _ marks.Comma rest to m refl, m) refl
+
+  trailing_comma_is : (left : ℕ) (from : Input) (one : Enumerator) (rest inner to : Input) → reading.constant expression from ≡ Some (one, rest)
+      → mark marks.Comma rest ≡ Some inner → mark marks.CloseBrace inner ≡ Some to
+      → reading.enumerators_from expression (suc left) from ≡ Some (one ∷ [], to)
+  unfolding reading.enumerators_from
+  trailing_comma_is left from one rest inner to c m b = rw (c, m, b) refl
+
+  more_constants_are : (left : ℕ) (from : Input) (one : Enumerator) (rest inner : Input) (others : List Enumerator) (to : Input)
+      → reading.constant expression from ≡ Some (one, rest) → mark marks.Comma rest ≡ Some inner
+      → mark marks.CloseBrace inner ≡ None → reading.enumerators_from expression left inner ≡ Some (others, to)
+      → reading.enumerators_from expression (suc left) from ≡ Some (one ∷ others, to)
+  unfolding reading.enumerators_from
+  more_constants_are left from one rest inner others to c m none e = rw (c, m, none, e) refl
+
+  enumeration_is : (attributes : List Attribute) (tag : Option Name) (inner : Input) (es : List Enumerator) (to : Input)
+      → reading.enumerators_from expression (turns inner) inner ≡ Some (es, to)
+      → reading.enumeration expression attributes tag inner
+      ≡ Some (specifiers.EnumDefinition (roll-EnumDefinition (record { attributes = attributes; tag = tag; enumerators = es })), to)
+  unfolding reading.enumeration
+  enumeration_is attributes tag inner es to e = rw e refl
+
+  single_start : (from : Input) (begin : TypeStart) (rest : Input) → grammar.BeginsType from begin rest
+      → reading.single_type expression from ≡ reading.single_by expression begin rest
+  unfolding reading.single_type
+  single_start from begin rest s = rw s refl
+
+  record_is : (kind : RecordKind) (outer : Input) (attributes : List Attribute) (rest : Input) (tag : Named)
+      → reading.attributes outer ≡ Some (attributes, rest) → identifier rest ≡ Some tag
+      → reading.record_type expression kind outer ≡ Some (specifiers.Record kind attributes tag.name, tag.rest)
+  unfolding reading.record_type
+  record_is kind outer attributes rest tag a n = rw (a, n) refl
+
+  enum_is : (outer : Input) (attributes : List Attribute) (rest : Input) (tag : Named) → reading.attributes outer ≡ Some (attributes, rest)
+      → identifier rest ≡ Some tag → mark marks.OpenBrace tag.rest ≡ None
+      → reading.enum_type expression outer ≡ Some (specifiers.Enum attributes tag.name, tag.rest)
+  unfolding reading.enum_type reading.tagged
+  enum_is outer attributes rest tag a n none = rw (a, n, none) refl
+
+  tagged_is : (outer : Input) (attributes : List Attribute) (rest : Input) (tag : Named) (inner : Input) (es : List Enumerator) (to : Input)
+      → reading.attributes outer ≡ Some (attributes, rest) → identifier rest ≡ Some tag → mark marks.OpenBrace tag.rest ≡ Some inner
+      → reading.enumerators_from expression (turns inner) inner ≡ Some (es, to)
+      → reading.enum_type expression outer
+      ≡ Some (specifiers.EnumDefinition (roll-EnumDefinition (record { attributes = attributes; tag = Some tag.name; enumerators = es })), to)
+  unfolding reading.enum_type reading.tagged
+  tagged_is outer attributes rest tag inner es to a n o e = rw (a, n, o) (enumeration_is attributes (Some tag.name) inner es to e)
+
+  untagged_is : (outer : Input) (attributes : List Attribute) (rest inner : Input) (es : List Enumerator) (to : Input)
+      → reading.attributes outer ≡ Some (attributes, rest) → mark marks.OpenBrace rest ≡ Some inner
+      → reading.enumerators_from expression (turns inner) inner ≡ Some (es, to)
+      → reading.enum_type expression outer
+      ≡ Some (specifiers.EnumDefinition (roll-EnumDefinition (record { attributes = attributes; tag = None; enumerators = es })), to)
+  unfolding reading.enum_type
+  untagged_is outer attributes rest inner es to a o e =
+      rw (a, no_identifier_at_mark _ rest inner o, o) (enumeration_is attributes None inner es to e)
+
+  integer_is : (from : Input) (words : List Keyword) (to : Input) (type : IntegerType) → Words is_specifier_word from words to
+      → integer_type words ≡ Some type → word is_specifier_word to ≡ None
+      → reading.specified expression from ≡ Some ((filter is_modifier words, specifiers.Integer type), to)
+  unfolding reading.specified
+  integer_is from words to type w t ends = rw (words-read w ends, some_named words type t, t) refl
+
+  single_is : (from : Input) (before : List Keyword) (inner : Input) (type : TypeSpecifier) (rest : Input) (after : List Keyword) (to : Input)
+      → Words is_modifier from before inner → word is_specifier_word inner ≡ None
+      → reading.single_type expression inner ≡ Some (type, rest)
+      → Words is_modifier rest after to → word is_modifier to ≡ None
+      → reading.specified expression from ≡ Some ((before ++ after, type), to)
+  unfolding reading.specified
+  single_is from before inner type rest after to a none s b ends =
+      rw (words-read (modifiers-words a) none, modifiers-no_integer a, s, words-read b ends) refl
+
+  type_is : (from : Input) (words : List Keyword) (type : TypeSpecifier) (rest : Input) (count : ℕ) (inner : Input) (lengths : List Expr)
+      (to : Input) → reading.specified expression from ≡ Some ((words, type), rest) → list_all is_qualifier words ≡ true
+      → reading.pointers rest ≡ Some (count, inner) → reading.lengths expression inner ≡ Some (lengths, to)
+      → reading.type_named expression from ≡ Some (grammar.type_name type count lengths, to)
+  unfolding reading.type_named
+  type_is from words type rest count inner lengths to s q p l = rw (s, q, p, l) refl
