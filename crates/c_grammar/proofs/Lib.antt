@@ -5,3 +5,4 @@ mod AttributesRead
 mod TypesRead
 mod Sizes
 mod ExpressionsRead
+mod Complete

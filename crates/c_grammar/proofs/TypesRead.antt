@@ -23,7 +23,7 @@ use Rattle.c_grammar.specs.Specifiers.{TakenWord, TypeStart, TypeStarted, is_int
 use Rattle.c_grammar.specs.Reading.{turns, words_from, pointers_from, pointers, begins_type, is_type}
 use Rattle.c_grammar.specs.Reading as reading
 use Rattle.c_grammar.proofs.Steps.{into, into_if}
-use Rattle.c_grammar.proofs.Terminals.{mark-turns, word-turns, no_word_at_mark, Begins, begins, BeginsAsType, begins_as_type}
+use Rattle.c_grammar.proofs.Terminals.{mark-turns, word-turns, no_word_at_mark, Begins, begins, marked, BeginsAsType, begins_as_type}
 
 -- ---- words
 
@@ -213,6 +213,18 @@ pub no_type_at_start : (from : Input) (started : Started) → start from ≡ Som
 unfolding begins_type type_start
 no_type_at_start from started e known = let b = begins from started e in
     rw b.next (starts_apart from.names b.taken.token.kind b.taken.token.text (ap is_start b.start ∙ known))
+
+-- a punctuator that begins no expression
+pub no_mark_at_start : (p : Punctuator) (from : Input) (started : Started) → start from ≡ Some started → is_start started.start ≡ true
+    → is_start (start_mark p) ≡ false → mark p from ≡ None
+no_mark_at_start p from started e known other = none_too (mark p from) λ to m.
+    let b = begins from started e in
+    let n = marked p from to m in
+    let same = same_Some b.taken n.taken (sym b.next ∙ n.next) in
+    let kind : b.taken.token.kind ≡ kinds.Punctuator p = ap (λ (t : Taken). t.token.kind) same ∙ n.kind in
+    let begin : start_by (kinds.Punctuator p) (word_of from.names b.taken.token) b.taken.token.text ≡ started.start =
+      ap (λ k. start_by k (word_of from.names b.taken.token) b.taken.token.text) (sym kind) ∙ b.start in
+    false≢true (sym other ∙ ap is_start begin ∙ known)
 
 keyword_type : (w : Keyword) → is_specifier_word w ≡ true → is_type (type_keyword w) ≡ true
 keyword_type words.Char e = refl
