@@ -23,9 +23,10 @@ use Rattle.c_grammar.specs.Specifiers as types
 use Rattle.c_grammar.specs.Specifiers.{word, is_specifier_word, is_modifier, is_qualifier, Words, Pointers}
 use Rattle.c_grammar.specs.Expressions as grammar
 use Rattle.c_grammar.specs.Expressions.{node, Expression, Arguments, ArgumentList, Lengths, TypeNamed, Specified, SingleType, Enumerators, Constant}
+use Rattle.c_grammar.specs.Depths.{type_name_depth, enumerator_depth}
 use Rattle.c_grammar.specs.Reading as reading
 use Rattle.c_grammar.specs.Reading.{turns, nested, expression_with}
-use Rattle.c_grammar.proofs.Depths.{type_name_depth, enumerator_depth, depth-Parenthesized, depth-Subscript, depth-Call, depth-Atomic, depth-Member, depth-PointerMember, depth-Postfix, depth-Prefix, depth-Unary, depth-SizeOfExpr, depth-SizeOfType, depth-AlignOf, depth-Cast, depth-Binary, depth-Logical, depth-Conditional, depth-Assignment, depth-Comma, depth-type_name, depth-Enumerator, depth-Enumeration}
+use Rattle.c_grammar.proofs.Depths.{depth-Parenthesized, depth-Subscript, depth-Call, depth-Atomic, depth-Member, depth-PointerMember, depth-Postfix, depth-Prefix, depth-Unary, depth-SizeOfExpr, depth-SizeOfType, depth-AlignOf, depth-Cast, depth-Binary, depth-Logical, depth-Conditional, depth-Assignment, depth-Comma, depth-type_name, depth-Enumerator, depth-Enumeration}
 use Rattle.c_grammar.proofs.Terminals.{NextIs, next_is, no_mark_at, no_word_at, no_word_at_mark, other_mark, mark-turns, start-turns, behind-turns, identifier-turns, no_mark_at_identifier}
 use Rattle.c_grammar.proofs.AttributesRead.{attributes-read, attributes-turns}
 use Rattle.c_grammar.proofs.TypesRead.{words-turns, no-other, no_mark_at_word, modifier-specifier, qualifier-specifier, pointers-read, pointers-turns}

@@ -21,17 +21,10 @@ use Rattle.c_syntax.specs.declared.specifier.Enumerator.{Enumerator, roll-Enumer
 use Rattle.c_syntax.specs.declared.expr.Expr.{Expr}
 use Rattle.c_syntax.specs.declared.expr.ExprKind.{ExprKind, the_lemmas}
 use Rattle.c_syntax.specs.declared.expr.ExprKind.TheVariants as kinds
-use Rattle.c_syntax.specs.declared.expr.ExprKind.TheFolds.{fold-Enumerator, fold-TypeName}
 use Rattle.c_syntax.specs.declared.expr.TypeName.{TypeName}
 use Rattle.c_syntax.specs.Depth.{expression_depth, specifier_depth, deepest, array_depth, expression_step, specifier_step, abstract_step, declarator_step, members_step}
 use Rattle.c_grammar.specs.Expressions.{node, type_name}
-
--- the depth of a type's name, by the steps of an expression's depth
-abbrev pub type_name_depth : TypeName → ℕ
-type_name_depth = fold-TypeName ℕ ℕ (ℕ → ℕ) (ℕ → ℕ) ℕ ℕ ℕ ℕ ℕ ℕ
-    expression_step specifier_step abstract_step declarator_step (λ expression. expression.kind)
-    (λ name. name.declarator name.specifier) (λ definition. deepest definition.enumerators)
-    (λ enumerator. unwrap_or enumerator.value 0) members_step (λ definition. deepest definition.members)
+use Rattle.c_grammar.specs.Depths.{type_name_depth, enumerator_depth}
 
 module _ (place : Place) where
   pub depth-Integer : (constant : IntegerConstant) → expression_depth (node place (kinds.Integer constant)) ≡ 1
@@ -115,13 +108,6 @@ module _ (place : Place) where
 pub depth-type_name : (s : TypeSpecifier) (p : ℕ) (ls : List Expr)
     → type_name_depth (type_name s p ls) ≡ array_depth (map expression_depth ls) (p + specifier_depth s)
 depth-type_name s p ls = search (rules, the_lemmas)
-
--- the depth of a constant of an enumeration, by the steps of an expression's depth
-abbrev pub enumerator_depth : Enumerator → ℕ
-enumerator_depth = fold-Enumerator ℕ ℕ (ℕ → ℕ) (ℕ → ℕ) ℕ ℕ ℕ ℕ ℕ ℕ
-    expression_step specifier_step abstract_step declarator_step (λ expression. expression.kind)
-    (λ name. name.declarator name.specifier) (λ definition. deepest definition.enumerators)
-    (λ enumerator. unwrap_or enumerator.value 0) members_step (λ definition. deepest definition.members)
 
 pub depth-Enumerator : (name : Name) (value : Expr)
     → enumerator_depth (roll-Enumerator (record { name = name; value = Some value })) ≡ expression_depth value

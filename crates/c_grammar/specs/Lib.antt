@@ -5,4 +5,5 @@ pub mod Attributes
 pub mod Operators
 pub mod Specifiers
 pub mod Expressions
+pub mod Depths
 pub mod Reading

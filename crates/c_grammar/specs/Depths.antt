@@ -1,0 +1,21 @@
+-- How deep the parts of an expression are that are no expressions (inner), by the steps of an expression's depth.
+use Rattle.std.specs.Prelude.{ℕ, unwrap_or}
+use Rattle.c_syntax.specs.declared.expr.ExprKind.TheFolds.{fold-Enumerator, fold-TypeName}
+use Rattle.c_syntax.specs.declared.expr.TypeName.{TypeName}
+use Rattle.c_syntax.specs.declared.specifier.Enumerator.{Enumerator}
+use Rattle.c_syntax.specs.Depth.{deepest, expression_step, specifier_step, abstract_step, declarator_step, members_step}
+
+-- the depth of a type's name
+abbrev pub type_name_depth : TypeName → ℕ
+type_name_depth = fold-TypeName ℕ ℕ (ℕ → ℕ) (ℕ → ℕ) ℕ ℕ ℕ ℕ ℕ ℕ
+    expression_step specifier_step abstract_step declarator_step (λ expression. expression.kind)
+    (λ name. name.declarator name.specifier) (λ definition. deepest definition.enumerators)
+    (λ enumerator. unwrap_or enumerator.value 0) members_step (λ definition. deepest definition.members)
+
+-- the depth of a constant of an enumeration
+abbrev pub enumerator_depth : Enumerator → ℕ
+enumerator_depth = fold-Enumerator ℕ ℕ (ℕ → ℕ) (ℕ → ℕ) ℕ ℕ ℕ ℕ ℕ ℕ
+    expression_step specifier_step abstract_step declarator_step (λ expression. expression.kind)
+    (λ name. name.declarator name.specifier) (λ definition. deepest definition.enumerators)
+    (λ enumerator. unwrap_or enumerator.value 0) members_step (λ definition. deepest definition.members)
+
