@@ -121,3 +121,51 @@ texts-sound (suc left) from texts to e = into _ (string from) _ e λ read s foun
     (λ inner c more. into_onward (texts_from left inner) _ _ more λ others rest known same.
       let parts = some_pair_parts (read.text ∷ others) texts rest to same in
       rw (← parts.0, ← parts.1) (grammar.Texts.more s c (texts-sound left inner others rest known)))
+
+clause-sound : (from : Input) (texts : List AttributeText) (to : Input) → clause from ≡ Some (texts, to) → Clause from texts to
+unfolding clause clause_inside
+clause-sound from texts to e = into_either (mark marks.OpenParenthesis from) _ _ _ e
+    (λ none same. let parts = some_pair_parts [] texts from to same in rw (← parts.0, ← parts.1) grammar.Clause.none)
+    (λ inner o more. into_either (mark marks.CloseParenthesis inner) _ _ _ more
+      (λ none found. grammar.Clause.some o (texts-sound (turns inner) inner texts to found))
+      (λ rest c same. let parts = some_pair_parts [] texts rest to same in rw (← parts.0, ← parts.1) (grammar.Clause.empty o c)))
+
+single-sound : (from : Input) (one : List Attribute) (to : Input) → single from ≡ Some (one, to) → Single from one to
+unfolding single
+single-sound from one to e = into _ (identifier from) _ e λ first n more.
+    into_either (mark marks.DoubleColon first.rest) _ _ _ more
+    (λ none found. into_onward (clause first.rest) _ _ found λ texts rest c same.
+      let parts = some_pair_parts [] one rest to same in
+      rw (← parts.0, ← parts.1) (grammar.Single.unprefixed n (clause-sound first.rest texts rest c)))
+    (λ inner m found. into _ (identifier inner) _ found λ second k last.
+      into_onward (clause second.rest) _ _ last λ texts rest c same.
+      let parts = some_pair_parts (kept first.name second.name texts) one rest to same in
+      rw (← parts.0, ← parts.1) (grammar.Single.prefixed n m k (clause-sound second.rest texts rest c)))
+
+group-sound : (left : ℕ) (from : Input) (group : List Attribute) (to : Input) → group_from left from ≡ Some (group, to) → Group from group to
+unfolding group_from
+group-sound zero from group to e = absurd (none-some _ e)
+group-sound (suc left) from group to e = into_onward (single from) _ _ e λ one rest s found.
+    into_either (mark marks.Comma rest) _ _ _ found
+    (λ none last. into_past _ _ _ last λ inner a more. into_past _ _ _ more λ end b same.
+      let parts = some_pair_parts one group end to same in
+      rw (← parts.0, ← parts.1) (grammar.Group.last (single-sound from one rest s) a b))
+    (λ inner c more. into_onward (group_from left inner) _ _ more λ others end known same.
+      let parts = some_pair_parts (one ++ others) group end to same in
+      rw (← parts.0, ← parts.1) (grammar.Group.more (single-sound from one rest s) c (group-sound left inner others end known)))
+
+attributes-sound_from : (left : ℕ) (from : Input) (list : List Attribute) (to : Input) → attributes_from left from ≡ Some (list, to)
+    → Attributes from list to
+unfolding attributes_from
+attributes-sound_from zero from list to e = absurd (none-some _ e)
+attributes-sound_from (suc left) from list to e = into_either (mark marks.OpenBracket from) _ _ _ e
+    (λ none same. let parts = some_pair_parts [] list from to same in rw (← parts.0, ← parts.1) grammar.Attributes.none)
+    (λ outer a found. into_past _ _ _ found λ inner b more. into_onward (group_from (turns inner) inner) _ _ more λ group rest g last.
+      into_onward (attributes_from left rest) _ _ last λ others end known same.
+      let parts = some_pair_parts (group ++ others) list end to same in
+      rw (← parts.0, ← parts.1) (grammar.Attributes.more a b (group-sound (turns inner) inner group rest g)
+        (attributes-sound_from left rest others end known)))
+
+pub attributes-sound : (from : Input) (list : List Attribute) (to : Input) → attributes from ≡ Some (list, to) → Attributes from list to
+unfolding attributes
+attributes-sound from list to e = attributes-sound_from (suc (turns from)) from list to e

@@ -6,3 +6,4 @@ mod TypesRead
 mod Sizes
 mod ExpressionsRead
 mod Complete
+mod Sound

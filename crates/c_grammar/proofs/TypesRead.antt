@@ -22,7 +22,8 @@ use Rattle.c_grammar.specs.Specifiers as types
 use Rattle.c_grammar.specs.Specifiers.{TakenWord, TypeStart, TypeStarted, is_integer_word, is_modifier, is_qualifier, is_specifier_word, times, integer_type, word, Words, Pointers, type_keyword, type_word, type_by, type_start}
 use Rattle.c_grammar.specs.Reading.{turns, words_from, pointers_from, pointers, begins_type, is_type}
 use Rattle.c_grammar.specs.Reading as reading
-use Rattle.c_grammar.proofs.Steps.{into, into_if}
+use Rattle.std.proofs.lemmas.Option.{some_pair_parts}
+use Rattle.c_grammar.proofs.Steps.{into, into_if, into_onward, into_either}
 use Rattle.c_grammar.proofs.Terminals.{mark-turns, word-turns, no_word_at_mark, Begins, begins, marked, BeginsAsType, begins_as_type}
 
 -- ---- words
@@ -117,6 +118,10 @@ modifier-integer words.Static e = refl
 modifier-integer words.Extern e = refl
 modifier-integer words.Typedef e = refl
 modifier-integer _ e = absurd (false≢true e)
+
+-- a specifier word is of an integer type or a modifier
+specifier-modifier : (w : Keyword) → is_specifier_word w ≡ true → is_integer_word w ≡ false → is_modifier w ≡ true
+specifier-modifier w known none = rw none at known
 
 -- modifiers are specifier words, and none of an integer type
 pub modifiers-words : {from : Input} {words : List Keyword} {to : Input} → Words is_modifier from words to → Words is_specifier_word from words to
@@ -274,3 +279,44 @@ unfolding word
 no_word_at_single from started e known = let b = begins_as_type from started e in
     rw b.next (no_specifier_word b.taken.token.kind (word_of from.names b.taken.token) b.taken.token.text b.taken.rest
       (ap is_single b.start ∙ known))
+
+-- ---- what is read is related
+
+words-sound_from : (test : Keyword → Bool) (left : ℕ) (from : Input) (words : List Keyword) (to : Input)
+    → words_from test left from ≡ Some (words, to) → Words test from words to
+unfolding words_from
+words-sound_from test zero from list to e = absurd (none-some _ e)
+words-sound_from test (suc left) from list to e = into_either (word test from) _ _ _ e
+    (λ none same. let parts = some_pair_parts [] list from to same in rw (← parts.0, ← parts.1) types.Words.none)
+    (λ taken w found. into_onward (words_from test left taken.rest) _ _ found λ others end known same.
+      let parts = some_pair_parts (taken.word ∷ others) list end to same in
+      rw (← parts.0, ← parts.1) (types.Words.more w (words-sound_from test left taken.rest others end known)))
+
+pub words-sound : (test : Keyword → Bool) (from : Input) (words : List Keyword) (to : Input)
+    → reading.words test from ≡ Some (words, to) → Words test from words to
+unfolding reading.words
+words-sound test from list to e = words-sound_from test (suc (turns from)) from list to e
+
+pointers-sound_from : (left : ℕ) (from : Input) (count : ℕ) (to : Input) → pointers_from left from ≡ Some (count, to) → Pointers from count to
+unfolding pointers_from
+pointers-sound_from zero from count to e = absurd (none-some _ e)
+pointers-sound_from (suc left) from count to e = into_either (mark marks.Star from) _ _ _ e
+    (λ none same. let parts = some_pair_parts 0 count from to same in rw (← parts.0, ← parts.1) types.Pointers.none)
+    (λ inner m found. into_onward (reading.words is_qualifier inner) _ _ found λ qualifiers rest w more.
+      into_onward (pointers_from left rest) _ _ more λ less end known same.
+      let parts = some_pair_parts (suc less) count end to same in
+      rw (← parts.0, ← parts.1) (types.Pointers.more m (words-sound is_qualifier inner qualifiers rest w)
+        (pointers-sound_from left rest less end known)))
+
+pub pointers-sound : (from : Input) (count : ℕ) (to : Input) → pointers from ≡ Some (count, to) → Pointers from count to
+unfolding pointers
+pointers-sound from count to e = pointers-sound_from (suc (turns from)) from count to e
+
+-- words without one of an integer type are modifiers
+pub words-modifiers : {from : Input} {words : List Keyword} {to : Input} → Words is_specifier_word from words to
+    → list_any is_integer_word words ≡ false → Words is_modifier from words to
+words-modifiers types.Words.none none = types.Words.none
+words-modifiers (types.Words.more {from = from} {taken = taken} {words = others} w more) none =
+    let parts = either_false (is_integer_word taken.word) (list_any is_integer_word others) none in
+    types.Words.more (word-other is_specifier_word is_modifier from taken w
+      (specifier-modifier taken.word (word-passes is_specifier_word from taken w) parts.0)) (words-modifiers more parts.1)
