@@ -186,15 +186,22 @@ module _ (limit : ℕ) (expression : ℕ → Reader Expr) (s : SoundExpressions 
 -- ---- expressions
 
 -- what was begun is related, and not too deep
-pub record SoundBegun (limit : ℕ) (from : Input) (b : Begun) : Type 0 where
-  pub related : Expression b.level from b.tree b.rest
+pub record SoundBegun (limit level : ℕ) (from : Input) (b : Begun) : Type 0 where
+  pub same_level : b.level ≡ level
+  pub related : Expression level from b.tree b.rest
   pub shallow : expression_depth b.tree ≤ limit
 
+-- the same by its own category
+own_level : (limit level : ℕ) (from : Input) (b : Begun) → SoundBegun limit level from b → SoundBegun limit b.level from b
+own_level limit level from b s = record {
+    same_level = refl; related = subst (λ l. Expression l from b.tree b.rest) (sym s.same_level) s.related; shallow = s.shallow;
+  }
+
 made-sound : (limit level : ℕ) (place : Place) (kind : ExprKind) (from rest : Input) (b : Begun) → made limit level place kind rest ≡ Some b
-    → Expression level from (node place kind) rest → SoundBegun limit from b
+    → Expression level from (node place kind) rest → SoundBegun limit level from b
 unfolding made
 made-sound limit level place kind from rest b e related = into_if _ _ _ _ e
-    (λ known same. subst (SoundBegun limit from) (same_Some _ b same) (record { related = related; shallow = le_is _ limit known }))
+    (λ known same. subst (SoundBegun limit level from) (same_Some _ b same) (record { same_level = refl; related = related; shallow = le_is _ limit known }))
     (λ known none. absurd (none-some b none))
 
 -- the readers of what is nested
@@ -229,7 +236,7 @@ module _ (limit : ℕ) (n : Nested) (s : SoundNested limit n) where
 
   call-sound : (kind : List Expr → ExprKind) (place : Place) (from inner : Input) (b : Begun) → reading.call limit n kind place inner ≡ Some b
       → ((arguments : List Expr) (to : Input) → Arguments inner arguments to → Expression 15 from (node place (kind arguments)) to)
-      → SoundBegun limit from b
+      → SoundBegun limit 15 from b
   unfolding reading.call
   call-sound kind place from inner b e k = into_onward (reading.arguments limit n inner) _ _ e λ arguments to a found.
       made-sound limit 15 place (kind arguments) from to b found (k arguments to (arguments-sound inner arguments to a))
@@ -237,7 +244,7 @@ module _ (limit : ℕ) (n : Nested) (s : SoundNested limit n) where
   operand-sound : (level : ℕ) (kind : Expr → ExprKind) (place : Place) (from inner : Input) (b : Begun)
       → reading.operand limit n level kind place inner ≡ Some b
       → ((operand : Expr) (to : Input) → Expression level inner operand to → Expression 14 from (node place (kind operand)) to)
-      → SoundBegun limit from b
+      → SoundBegun limit 14 from b
   unfolding reading.operand
   operand-sound level kind place from inner b e k = into_onward (n.expression level inner) _ _ e λ operand to o found.
       made-sound limit 14 place (kind operand) from to b found (k operand to (inner-sound level inner operand to o))
@@ -245,21 +252,21 @@ module _ (limit : ℕ) (n : Nested) (s : SoundNested limit n) where
   of_type-sound : (kind : TypeName → ExprKind) (place : Place) (from inner : Input) (b : Begun) → reading.of_type limit n kind place inner ≡ Some b
       → ((name : TypeName) (rest to : Input) → TypeNamed inner name rest → mark marks.CloseParenthesis rest ≡ Some to
         → Expression 14 from (node place (kind name)) to)
-      → SoundBegun limit from b
+      → SoundBegun limit 14 from b
   unfolding reading.of_type
   of_type-sound kind place from inner b e k = into_onward (n.type_name inner) _ _ e λ name rest t found.
       into_past _ _ _ found λ to m last.
       made-sound limit 14 place (kind name) from to b last (k name rest to (s.types inner name rest t) m)
 
   parenthesized-sound : (place : Place) (from inner : Input) (b : Begun) → grammar.Starts from operators.Parenthesis place inner
-      → reading.parenthesized limit n place inner ≡ Some b → SoundBegun limit from b
+      → reading.parenthesized limit n place inner ≡ Some b → SoundBegun limit 15 from b
   unfolding reading.parenthesized
   parenthesized-sound place from inner b starts e = into_onward (n.expression 0 inner) _ _ e λ tree rest k found.
       into_past _ _ _ found λ to m last. made-sound limit 15 place (kinds.Parenthesized tree) from to b last
       (grammar.Expression.parenthesized starts (inner-sound 0 inner tree rest k) m)
 
   cast-sound : (place : Place) (from inner : Input) (b : Begun) → grammar.Starts from operators.Parenthesis place inner
-      → reading.cast limit n place inner ≡ Some b → SoundBegun limit from b
+      → reading.cast limit n place inner ≡ Some b → SoundBegun limit 13 from b
   unfolding reading.cast
   cast-sound place from inner b starts e = into_onward (n.type_name inner) _ _ e λ target rest t found.
       into_past _ _ _ found λ after m more. into_onward (n.expression 13 after) _ _ more λ operand to k last.
@@ -267,7 +274,7 @@ module _ (limit : ℕ) (n : Nested) (s : SoundNested limit n) where
       (grammar.Expression.cast starts (s.types inner target rest t) m (inner-sound 13 after operand to k))
 
   size_of-sound : (place : Place) (from outer : Input) (b : Begun) → grammar.Starts from operators.SizeOf place outer
-      → reading.size_of limit n place outer ≡ Some b → SoundBegun limit from b
+      → reading.size_of limit n place outer ≡ Some b → SoundBegun limit 14 from b
   unfolding reading.size_of
   size_of-sound place from outer b starts e = into_if (begins_cast outer) _ _ _ e
       (λ known found. into_past _ _ _ found λ inner o last. of_type-sound kinds.SizeOfType place from inner b last
@@ -275,50 +282,50 @@ module _ (limit : ℕ) (n : Nested) (s : SoundNested limit n) where
       (λ known found. operand-sound 14 kinds.SizeOfExpr place from outer b found (λ operand to k. grammar.Expression.size_of_expr starts k))
 
   begun_by-sound : (begin : Start) (place : Place) (from rest : Input) (b : Begun) → grammar.Starts from begin place rest
-      → reading.begun_by limit n begin place rest ≡ Some b → SoundBegun limit from b
+      → reading.begun_by limit n begin place rest ≡ Some b → SoundBegun limit b.level from b
   begun_by-sound (operators.Integer constant) place from rest b starts e =
-      made-sound limit 15 place (kinds.Integer constant) from rest b e (grammar.Expression.integer starts)
+      own_level limit 15 from b (made-sound limit 15 place (kinds.Integer constant) from rest b e (grammar.Expression.integer starts))
   begun_by-sound (operators.Character constant) place from rest b starts e =
-      made-sound limit 15 place (kinds.Character constant) from rest b e (grammar.Expression.character starts)
+      own_level limit 15 from b (made-sound limit 15 place (kinds.Character constant) from rest b e (grammar.Expression.character starts))
   begun_by-sound operators.NullPointer place from rest b starts e =
-      made-sound limit 15 place kinds.NullPointer from rest b e (grammar.Expression.null_pointer starts)
+      own_level limit 15 from b (made-sound limit 15 place kinds.NullPointer from rest b e (grammar.Expression.null_pointer starts))
   begun_by-sound (operators.Ordinary text) place from rest b starts e = into_either (mark marks.OpenParenthesis rest) _ _ _ e
-      (λ none found. made-sound limit 15 place (kinds.Name text) from rest b found (grammar.Expression.name starts))
-      (λ inner o found. call-sound (kinds.Call text) place from inner b found (λ arguments to a. grammar.Expression.call starts o a))
+      (λ none found. own_level limit 15 from b (made-sound limit 15 place (kinds.Name text) from rest b found (grammar.Expression.name starts)))
+      (λ inner o found. own_level limit 15 from b (call-sound (kinds.Call text) place from inner b found (λ arguments to a. grammar.Expression.call starts o a)))
   begun_by-sound (operators.Operation operation) place from rest b starts e = into_past _ _ _ e λ inner o found.
-      call-sound (kinds.Atomic operation) place from inner b found (λ arguments to a. grammar.Expression.atomic starts o a)
+      own_level limit 15 from b (call-sound (kinds.Atomic operation) place from inner b found (λ arguments to a. grammar.Expression.atomic starts o a))
   begun_by-sound operators.Parenthesis place from rest b starts e = into_if (begins_type rest) _ _ _ e
-      (λ known found. cast-sound place from rest b starts found) (λ known found. parenthesized-sound place from rest b starts found)
+      (λ known found. own_level limit 13 from b (cast-sound place from rest b starts found)) (λ known found. own_level limit 15 from b (parenthesized-sound place from rest b starts found))
   begun_by-sound (operators.Prefix operator) place from rest b starts e =
-      operand-sound 14 (kinds.Prefix operator) place from rest b e (λ operand to k. grammar.Expression.prefix starts k)
+      own_level limit 14 from b (operand-sound 14 (kinds.Prefix operator) place from rest b e (λ operand to k. grammar.Expression.prefix starts k))
   begun_by-sound (operators.Unary operator) place from rest b starts e =
-      operand-sound 13 (kinds.Unary operator) place from rest b e (λ operand to k. grammar.Expression.unary starts k)
-  begun_by-sound operators.SizeOf place from rest b starts e = size_of-sound place from rest b starts e
+      own_level limit 14 from b (operand-sound 13 (kinds.Unary operator) place from rest b e (λ operand to k. grammar.Expression.unary starts k))
+  begun_by-sound operators.SizeOf place from rest b starts e = own_level limit 14 from b (size_of-sound place from rest b starts e)
   begun_by-sound operators.AlignOf place from rest b starts e = into_past _ _ _ e λ inner o found.
-      of_type-sound kinds.AlignOf place from inner b found (λ name after to t m. grammar.Expression.align_of starts o t m)
+      own_level limit 14 from b (of_type-sound kinds.AlignOf place from inner b found (λ name after to t m. grammar.Expression.align_of starts o t m))
   begun_by-sound operators.Nothing place from rest b starts e = absurd (none-some b e)
 
-  begun-sound : (from : Input) (b : Begun) → begun limit n from ≡ Some b → SoundBegun limit from b
+  begun-sound : (from : Input) (b : Begun) → begun limit n from ≡ Some b → SoundBegun limit b.level from b
   unfolding begun
   begun-sound from b e = into _ (start from) _ e λ first starts found. begun_by-sound first.start first.place from first.rest b starts found
 
   joined-sound : (level right : ℕ) (kind : Expr → ExprKind) (place : Place) (from inner : Input) (b : Begun)
       → reading.joined limit n level right kind place inner ≡ Some b
       → ((second : Expr) (to : Input) → Expression right inner second to → Expression level from (node place (kind second)) to)
-      → SoundBegun limit from b
+      → SoundBegun limit level from b
   unfolding reading.joined
   joined-sound level right kind place from inner b e k = into_onward (n.expression right inner) _ _ e λ second to o found.
       made-sound limit level place (kind second) from to b found (k second to (inner-sound right inner second to o))
 
   conditional-sound : (from : Input) (test : Expr) (before inner : Input) (b : Begun) → Expression 3 from test before
-      → grammar.Continues before operators.Question inner → reading.conditional limit n test inner ≡ Some b → SoundBegun limit from b
+      → grammar.Continues before operators.Question inner → reading.conditional limit n test inner ≡ Some b → SoundBegun limit 2 from b
   unfolding reading.conditional
   conditional-sound from test before inner b t c e = into_onward (n.expression 0 inner) _ _ e λ first colon a found.
       into_past _ _ _ found λ rest m last. joined-sound 2 2 (kinds.Conditional test first) test.place from rest b last
       (λ second to o. grammar.Expression.conditional t c (inner-sound 0 inner first colon a) m o)
 
   subscript-sound : (from : Input) (array : Expr) (before inner : Input) (b : Begun) → Expression 15 from array before
-      → grammar.Continues before operators.Subscript inner → reading.subscript limit n array inner ≡ Some b → SoundBegun limit from b
+      → grammar.Continues before operators.Subscript inner → reading.subscript limit n array inner ≡ Some b → SoundBegun limit 15 from b
   unfolding reading.subscript
   subscript-sound from array before inner b l c e = into_onward (n.expression 0 inner) _ _ e λ index close k found.
       into_past _ _ _ found λ to m last. made-sound limit 15 array.place (kinds.Subscript array index) from to b last
@@ -326,14 +333,14 @@ module _ (limit : ℕ) (n : Nested) (s : SoundNested limit n) where
 
   member-sound : (kind : Name → ExprKind) (place : Place) (from inner : Input) (b : Begun) → reading.member limit n kind place inner ≡ Some b
       → ((named : Named) → identifier inner ≡ Some named → Expression 15 from (node place (kind named.name)) named.rest)
-      → SoundBegun limit from b
+      → SoundBegun limit 15 from b
   unfolding reading.member
   member-sound kind place from inner b e k = into _ (identifier inner) _ e λ named i found.
       made-sound limit 15 place (kind named.name) from named.rest b found (k named i)
 
   grown-sound : (operator : operators.Infix) (from : Input) (left : Expr) (before inner : Input) (b : Begun)
       → Expression (left_level operator) from left before → grammar.Continues before operator inner
-      → grown limit n operator left inner ≡ Some b → SoundBegun limit from b
+      → grown limit n operator left inner ≡ Some b → SoundBegun limit (level_of operator) from b
   grown-sound operators.Subscript from left before inner b l c e = subscript-sound from left before inner b l c e
   grown-sound operators.Member from left before inner b l c e =
       member-sound (kinds.Member left) left.place from inner b e (λ named i. grammar.Expression.member l c i)
@@ -363,3 +370,48 @@ module _ (limit : ℕ) (n : Nested) (s : SoundNested limit n) where
       both true true x y z = (le_is _ _ x, le_is _ _ y)
       both true false x y z = absurd (false≢true z)
       both false b x y z = absurd (false≢true z)
+
+  stopped : (wanted : ℕ) (from : Input) (so_far : Begun) (tree : Expr) (to : Input) → SoundBegun limit so_far.level from so_far
+      → wanted ≤ so_far.level → ◌≡◌ {A = Option (Expr × Input)} (Some (so_far.tree, so_far.rest)) (Some (tree, to))
+      → Expression wanted from tree to × (expression_depth tree ≤ limit)
+  stopped wanted from so_far tree to b h same =
+      let parts = some_pair_parts so_far.tree tree so_far.rest to same in
+      rw (← parts.0, ← parts.1) (loosen wanted so_far.level h b.related, b.shallow)
+
+  climb-sound : (wanted left : ℕ) (from : Input) (so_far : Begun) (tree : Expr) (to : Input) → SoundBegun limit so_far.level from so_far
+      → wanted ≤ so_far.level → climb limit n wanted left so_far ≡ Some (tree, to)
+      → Expression wanted from tree to × (expression_depth tree ≤ limit)
+  unfolding climb
+  climb-sound wanted zero from so_far tree to b h e = absurd (none-some _ e)
+  climb-sound wanted (suc left) from so_far tree to b h e =
+      into_either (behind so_far.rest) _ _ _ e
+      (λ none same. stopped wanted from so_far tree to b h same)
+      (λ taken c found. into_if (goes_on wanted taken.operator so_far.level) _ _ _ found
+        (λ known more. into _ (grown limit n taken.operator so_far.tree taken.rest) _ more λ next g last.
+          let levels = goes-on wanted taken.operator so_far.level known in
+          let sound = grown-sound taken.operator from so_far.tree so_far.rest taken.rest next
+            (loosen (left_level taken.operator) so_far.level levels.1 b.related) c g in
+          climb-sound wanted left from next tree to (own_level limit (level_of taken.operator) from next sound)
+          (omega (arith, levels, sound.same_level)) last)
+        (λ known same. stopped wanted from so_far tree to b h same))
+
+  expression-sound : (wanted : ℕ) (from : Input) (tree : Expr) (to : Input) → expression_with limit n wanted from ≡ Some (tree, to)
+      → Expression wanted from tree to × (expression_depth tree ≤ limit)
+  unfolding expression_with
+  expression-sound wanted from tree to e = into _ (begun limit n from) _ e λ first b found.
+      into_if (nat_le wanted first.level) _ _ _ found
+      (λ known more. climb-sound wanted (suc (turns first.rest)) from first tree to (begun-sound from first b) (le_is _ _ known) more)
+      (λ known none. absurd (none-some _ none))
+
+pub nested-sound : (limit room : ℕ) → SoundNested limit (nested limit room)
+unfolding nested
+nested-sound limit zero = record {
+    expressions = record { sound = λ level from tree to e. absurd (none-some _ e) };
+    types = λ from name to e. absurd (none-some _ e);
+  }
+nested-sound limit (suc room) =
+    let s = nested-sound limit room in
+    record {
+      expressions = record { sound = λ level from tree to e. expression-sound limit (nested limit room) s level from tree to e };
+      types = λ from name to e. type-sound limit (nested limit room).expression s.expressions from name to e;
+    }

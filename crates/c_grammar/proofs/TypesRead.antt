@@ -316,7 +316,7 @@ pointers-sound from count to e = pointers-sound_from (suc (turns from)) from cou
 pub words-modifiers : {from : Input} {words : List Keyword} {to : Input} → Words is_specifier_word from words to
     → list_any is_integer_word words ≡ false → Words is_modifier from words to
 words-modifiers types.Words.none none = types.Words.none
-words-modifiers (types.Words.more {from = from} {taken = taken} {words = others} w more) none =
+words-modifiers (types.Words.more {from = from} {taken = taken} {words = others} w behind) none =
     let parts = either_false (is_integer_word taken.word) (list_any is_integer_word others) none in
     types.Words.more (word-other is_specifier_word is_modifier from taken w
-      (specifier-modifier taken.word (word-passes is_specifier_word from taken w) parts.0)) (words-modifiers more parts.1)
+      (specifier-modifier taken.word (word-passes is_specifier_word from taken w) parts.0)) (words-modifiers behind parts.1)
