@@ -5,5 +5,8 @@ pub mod Attributes
 pub mod Operators
 pub mod Specifiers
 pub mod Expressions
+pub mod Declarations
+pub mod Statements
+pub mod Grammar
 pub mod Depths
 pub mod Reading
