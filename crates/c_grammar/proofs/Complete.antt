@@ -43,13 +43,13 @@ array-least : (lengths : List Expr) (element : ℕ) → element ≤ array_depth 
 array-least [] element = omega arith
 array-least (length ∷ lengths) element = omega (arith, array-least lengths element)
 
-array-within : (lengths : List Expr) (element n : ℕ) → array_depth (map expression_depth lengths) element ≤ n
+pub array-within : (lengths : List Expr) (element n : ℕ) → array_depth (map expression_depth lengths) element ≤ n
     → (deepest (map expression_depth lengths) ≤ n) × (element ≤ n)
 array-within [] element n h = omega (arith, h)
 array-within (length ∷ lengths) element n h =
     let inner = array-within lengths element n (omega (arith, h)) in omega (arith, h, inner)
 
-is_true : {b : Bool} → IsTrue b → b ≡ true
+pub is_true : {b : Bool} → IsTrue b → b ≡ true
 is_true h = search rules
 
 array-inside : (lengths : List Expr) (element n : ℕ) → array_depth (map expression_depth lengths) element ≤ suc n → 1 ≤ element
@@ -151,12 +151,12 @@ ends_words from a = record {
 
 module _ (limit : ℕ) where
   -- what an expression's derivation gives
-  abbrev Reads : ℕ → Input → Expr → Input → Type 0
+  abbrev pub Reads : ℕ → Input → Expr → Input → Type 0
   Reads level from tree to = (room wanted : ℕ) → expression_depth tree ≤ suc room → expression_depth tree ≤ limit → wanted ≤ level
       → Follows level to → read.Climbs limit room wanted from tree level to
 
   -- a part of an expression
-  part : (level : ℕ) (from : Input) (tree : Expr) (to : Input) → Expression level from tree to → Reads level from tree to → (room : ℕ)
+  pub part : (level : ℕ) (from : Input) (tree : Expr) (to : Input) → Expression level from tree to → Reads level from tree to → (room : ℕ)
       → expression_depth tree ≤ room → expression_depth tree ≤ limit → Ends level to
       → (nested limit room).expression level from ≡ Some (tree, to)
   part level from tree to e reads room deep within ends =

@@ -7,3 +7,5 @@ mod Sizes
 mod ExpressionsRead
 mod Complete
 mod Sound
+mod DeclarationsRead
+mod NamesRead

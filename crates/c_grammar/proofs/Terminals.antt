@@ -285,3 +285,18 @@ pub no_open_at_start : (from : Input) (started : Started) → start from ≡ Som
 unfolding mark
 no_open_at_start from started e known = let b = begins from started e in
     rw (b.next, closed_start b.taken.token.kind _ b.taken.token.text (ap is_open b.start ∙ known)) refl
+
+pub no_identifier_at : (p : Punctuator) (from : Input) → NextIs p from.tokens → identifier from ≡ None
+unfolding identifier
+no_identifier_at p from n = let t = taken_at p from n in rw (t.1, t.2) refl
+
+-- an identifier is no keyword
+identifier_no_word : (test : Keyword → Bool) (kind : TokenKind) (rest : Input) → is_identifier kind ≡ true → word_by test kind rest ≡ None
+identifier_no_word test (kinds.Keyword w) rest e = absurd (false≢true e)
+identifier_no_word test _ rest e = refl
+
+pub no_word_at_identifier : (test : Keyword → Bool) (from : Input) (named : Named) → identifier from ≡ Some named → word test from ≡ None
+unfolding word identifier
+no_word_at_identifier test from named e = into _ (next from) named e λ taken is found.
+    into_if (is_identifier taken.token.kind) _ _ named found
+    (λ known _. rw (is, identifier_no_word test taken.token.kind taken.rest known) refl) (λ _ none. absurd (none-some named none))

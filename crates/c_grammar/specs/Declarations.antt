@@ -44,16 +44,10 @@ abbrev pub declarator : ℕ → Name → List Expr → Declarator
 declarator pointers name lengths = roll-Declarator (record { pointers = pointers; name = name; lengths = lengths })
 
 -- a declared name with its `*`s and array lengths
-pub record Declared (from : Input) (tree : Declarator) (name : Name) (to : Input) : Type 0 where
-  pub pointers : ℕ
-  pub behind : Input
-  pub stars : Pointers from pointers behind
-  pub named : Named
-  pub names : identifier behind ≡ Some named
-  pub lengths : List Expr
-  pub arrays : Lengths named.rest lengths to
-  pub same_name : named.name ≡ name
-  pub same_tree : tree ≡ declarator pointers named.name lengths
+pub data Declared : Input → Declarator → Name → Input → Type 0 where
+  declared : {from : Input} {pointers : ℕ} {behind : Input} {named : Named} {lengths : List Expr} {to : Input}
+      → Pointers from pointers behind → identifier behind ≡ Some named → Lengths named.rest lengths to
+      → Declared from (declarator pointers named.name lengths) named.name to
 
 -- a parameter without a name
 abbrev pub unnamed_parameter : ℕ → List Expr → ParameterDeclarator

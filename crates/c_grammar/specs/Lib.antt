@@ -10,3 +10,4 @@ pub mod Statements
 pub mod Grammar
 pub mod Depths
 pub mod Reading
+pub mod DeclarationReading
