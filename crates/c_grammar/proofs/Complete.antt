@@ -83,7 +83,7 @@ no_brace_before (grammar.Enumerators.trailing_comma c m n) = no_brace_here c
 no_brace_before (grammar.Enumerators.more_constants c m others) = no_brace_here c
 
 -- behind a type's own words, where modifiers may follow
-no_brace : {from : Input} {words : List Keyword} {to : Input} → Words is_modifier from words to → mark marks.OpenBrace to ≡ None
+pub no_brace : {from : Input} {words : List Keyword} {to : Input} → Words is_modifier from words to → mark marks.OpenBrace to ≡ None
     → mark marks.OpenBrace from ≡ None
 no_brace types.Words.none ends = ends
 no_brace (types.Words.more {from = from} {taken = taken} w others) ends = no_mark_at_word marks.OpenBrace is_modifier from taken w

@@ -9,3 +9,4 @@ mod Complete
 mod Sound
 mod DeclarationsRead
 mod NamesRead
+mod RecordsRead

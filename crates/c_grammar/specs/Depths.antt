@@ -1,8 +1,10 @@
 -- How deep the parts of an expression are that are no expressions (inner), by the steps of an expression's depth.
 use Rattle.std.specs.Prelude.{ℕ, unwrap_or}
-use Rattle.c_syntax.specs.declared.expr.ExprKind.TheFolds.{fold-Enumerator, fold-TypeName}
+use Rattle.c_syntax.specs.declared.expr.ExprKind.TheFolds.{fold-Enumerator, fold-TypeName, fold-Declarator, fold-MemberDeclaration}
 use Rattle.c_syntax.specs.declared.expr.TypeName.{TypeName}
+use Rattle.c_syntax.specs.declared.declarator.Declarator.{Declarator}
 use Rattle.c_syntax.specs.declared.specifier.Enumerator.{Enumerator}
+use Rattle.c_syntax.specs.declared.specifier.MemberDeclaration.{MemberDeclaration}
 use Rattle.c_syntax.specs.Depth.{deepest, expression_step, specifier_step, abstract_step, declarator_step, members_step}
 
 -- the depth of a type's name
@@ -19,3 +21,17 @@ enumerator_depth = fold-Enumerator ℕ ℕ (ℕ → ℕ) (ℕ → ℕ) ℕ ℕ �
     (λ name. name.declarator name.specifier) (λ definition. deepest definition.enumerators)
     (λ enumerator. unwrap_or enumerator.value 0) members_step (λ definition. deepest definition.members)
 
+
+-- the depth of members of one type
+abbrev pub member_depth : MemberDeclaration → ℕ
+member_depth = fold-MemberDeclaration ℕ ℕ (ℕ → ℕ) (ℕ → ℕ) ℕ ℕ ℕ ℕ ℕ ℕ
+    expression_step specifier_step abstract_step declarator_step (λ expression. expression.kind)
+    (λ name. name.declarator name.specifier) (λ definition. deepest definition.enumerators)
+    (λ enumerator. unwrap_or enumerator.value 0) members_step (λ definition. deepest definition.members)
+
+-- what a declarator makes of the depth of the type that it begins with
+abbrev pub declarator_depth : Declarator → ℕ → ℕ
+declarator_depth = fold-Declarator ℕ ℕ (ℕ → ℕ) (ℕ → ℕ) ℕ ℕ ℕ ℕ ℕ ℕ
+    expression_step specifier_step abstract_step declarator_step (λ expression. expression.kind)
+    (λ name. name.declarator name.specifier) (λ definition. deepest definition.enumerators)
+    (λ enumerator. unwrap_or enumerator.value 0) members_step (λ definition. deepest definition.members)
