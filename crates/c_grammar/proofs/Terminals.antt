@@ -12,7 +12,7 @@ use Rattle.c_lexer.specs.declared.keyword.Keyword.{Keyword}
 use Rattle.c_lexer.specs.contracts.punctuator.Punctuator as punctuator
 use Rattle.c_grammar.specs.declared.names.NameEntry.{NameEntry}
 use Rattle.c_lexer.specs.declared.keyword.Keyword.TheVariants as words
-use Rattle.c_grammar.specs.Names.{Word, TypedefName, HeaderName, OperationName, OrdinaryName, NoName, word_of}
+use Rattle.c_grammar.specs.Names.{Word, TypedefName, HeaderName, OperationName, OrdinaryName, NoName, word_by as word_by_kind, word_of}
 use Rattle.c_grammar.specs.Marks.{is_mark}
 use Rattle.c_grammar.specs.Input.{Input, Taken, Named, first_of_tokens, next, taken_if, mark, is_identifier, name_of, identifier}
 use Rattle.c_grammar.specs.Attributes.{ReadText, text_by, string}
@@ -300,3 +300,16 @@ unfolding word identifier
 no_word_at_identifier test from named e = into _ (next from) named e λ taken is found.
     into_if (is_identifier taken.token.kind) _ _ named found
     (λ known _. rw (is, identifier_no_word test taken.token.kind taken.rest known) refl) (λ _ none. absurd (none-some named none))
+
+-- ---- a type begins with no punctuator
+
+type_no_mark : (p : Punctuator) (entries : List NameEntry) (kind : TokenKind) (text : List ℕ)
+    → is_type (type_by kind (word_by_kind entries kind text) text) ≡ true → is_mark p kind ≡ false
+type_no_mark p entries (kinds.Punctuator q) text e = absurd (false≢true e)
+type_no_mark p entries _ text e = refl
+
+pub no_mark_at_type : (p : Punctuator) (from : Input) (started : TypeStarted) → type_start from ≡ Some started → is_type started.start ≡ true
+    → mark p from ≡ None
+unfolding mark
+no_mark_at_type p from started e known = let b = begins_as_type from started e in
+    rw (b.next, type_no_mark p from.names b.taken.token.kind b.taken.token.text (ap is_type b.start ∙ known)) refl
