@@ -10,3 +10,4 @@ mod Sound
 mod DeclarationsRead
 mod NamesRead
 mod RecordsRead
+mod StatementDepths

@@ -11,3 +11,4 @@ pub mod Grammar
 pub mod Depths
 pub mod Reading
 pub mod DeclarationReading
+pub mod StatementReading
