@@ -11,3 +11,4 @@ mod DeclarationsRead
 mod NamesRead
 mod RecordsRead
 mod StatementDepths
+mod Keywords
