@@ -12,3 +12,4 @@ mod NamesRead
 mod RecordsRead
 mod StatementDepths
 mod Keywords
+mod StatementsRead
