@@ -86,3 +86,7 @@ no_keyword_at_type w from known none = none_too (keyword w from) λ to m.
 pub no_type_at_mark : (p : Punctuator) (from to : Input) → mark p from ≡ Some to → begins_type from ≡ false
 unfolding begins_type type_start
 no_type_at_mark p from to e = let m = marked p from to e in rw (m.next, m.kind) refl
+
+-- a punctuator stands where no type begins
+pub no_mark_at_begun : (p : Punctuator) (from : Input) → begins_type from ≡ true → mark p from ≡ None
+no_mark_at_begun p from known = none_too (mark p from) λ to m. false≢true (sym (no_type_at_mark p from to m) ∙ known)

@@ -98,7 +98,7 @@ mutual
     -- selection-statement (6.8.4): an `else` belongs to the nearest `if`, so that none stands behind an `if` without one
     if_ : {position : Position} {from open_ : Input} {test : Expr} {inner : Input} {then_ : Stmt} {to : Input}
         → keyword words.If from ≡ Some open_ → Tested open_ test inner → Statement position inner then_ to
-        → keyword words.Else to ≡ None → Kind position from (kinds.If test then_) (under from to)
+        → keyword words.Else (under inner to) ≡ None → Kind position from (kinds.If test then_) (under from to)
     if_else : {position : Position} {from open_ : Input} {test : Expr} {inner : Input} {then_ : Stmt}
         {behind other : Input} {otherwise : Stmt} {to : Input} → keyword words.If from ≡ Some open_
         → Tested open_ test inner → Statement position inner then_ behind
