@@ -13,3 +13,4 @@ mod RecordsRead
 mod StatementDepths
 mod Keywords
 mod StatementsRead
+mod FilesRead

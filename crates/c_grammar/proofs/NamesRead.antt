@@ -83,7 +83,7 @@ local-turns (grammar.LocalDeclaration.declared_names s l t d) = omega (arith, sp
 
 -- ---- the first token of a list of names
 
-typedef_names-end : {from : Input} {list : List Declarator} {to : Input} → TypedefNames from list to → EndsType from
+pub typedef_names-end : {from : Input} {list : List Declarator} {to : Input} → TypedefNames from list to → EndsType from
 typedef_names-end (grammar.TypedefNames.last d m) = declared_ends d
 typedef_names-end (grammar.TypedefNames.more d m others) = declared_ends d
 

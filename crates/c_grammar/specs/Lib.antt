@@ -12,3 +12,4 @@ pub mod Depths
 pub mod Reading
 pub mod DeclarationReading
 pub mod StatementReading
+pub mod FileReading
