@@ -14,3 +14,5 @@ mod StatementDepths
 mod Keywords
 mod StatementsRead
 mod FilesRead
+mod Unique
+mod DeclarationsSound

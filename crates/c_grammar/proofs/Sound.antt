@@ -133,7 +133,7 @@ module _ (limit : ℕ) (expression : ℕ → Reader Expr) (s : SoundExpressions 
       let parts = some_pair_parts (specifiers.Record kind attributes named.name) type named.rest to same in
       rw (← parts.0, ← parts.1) (k attributes rest named (attributes-sound outer attributes rest a) n)
 
-  single_by-sound : (begin : TypeStart) (from rest : Input) (type : TypeSpecifier) (to : Input) → grammar.BeginsType from begin rest
+  pub single_by-sound : (begin : TypeStart) (from rest : Input) (type : TypeSpecifier) (to : Input) → grammar.BeginsType from begin rest
       → reading.single_by expression begin rest ≡ Some (type, to) → SingleType from type to
   single_by-sound types.Void from rest type to b e = let parts = some_pair_parts specifiers.Void type rest to e in
       rw (← parts.0, ← parts.1) (grammar.SingleType.void b)

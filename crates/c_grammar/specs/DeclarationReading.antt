@@ -36,6 +36,15 @@ specified_with single from = onward (words is_specifier_word from) λ before res
     else (onward (single rest) λ specifier behind. onward (words is_modifier behind) λ after to.
       Some ((before ++ after, specifier), to))
 
+abbrev pub is_void_start : TypeStart → Bool
+is_void_start types.Void = true
+is_void_start _ = false
+
+-- `void` and the closing parenthesis
+unfoldable pub void_alone : Input → Option Input
+void_alone from = option_and_then (λ started. if is_void_start started.start
+    then mark marks.CloseParenthesis started.rest else None) (type_start from)
+
 module _ (expression : ℕ → Reader Expr) where
   -- ---- declarators
 
@@ -66,15 +75,6 @@ module _ (expression : ℕ → Reader Expr) where
   parameters_from (suc left) from = onward (parameter from) λ one rest. either (mark marks.Comma rest)
       (past (mark marks.CloseParenthesis rest) λ to. Some (one ∷ [], to))
       (λ inner. onward (parameters_from left inner) λ others to. Some (one ∷ others, to))
-
-  abbrev pub is_void_start : TypeStart → Bool
-  is_void_start types.Void = true
-  is_void_start _ = false
-
-  -- `void` and the closing parenthesis
-  unfoldable pub void_alone : Input → Option Input
-  void_alone from = option_and_then (λ started. if is_void_start started.start
-      then mark marks.CloseParenthesis started.rest else None) (type_start from)
 
   -- behind the opening parenthesis
   unfoldable pub parameter_list : Reader (List Parameter)

@@ -2,6 +2,8 @@
 //! for each production, under the names that are in scope. The layer above reads by it.
 #![tactic(auto)]
 
+mod laws;
 mod names;
 
+pub use laws::trees_are_determined;
 pub use names::{NameEntry, NameKind};
