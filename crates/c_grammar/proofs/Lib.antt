@@ -16,3 +16,5 @@ mod StatementsRead
 mod FilesRead
 mod Unique
 mod DeclarationsSound
+mod StatementsSound
+mod FilesSound
