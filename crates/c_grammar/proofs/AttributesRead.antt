@@ -1,10 +1,10 @@
 -- Attributes that the grammar relates are what is read, and what is read is related.
-use Rattle.std.proofs.Common.{◌≡◌, ℕ, zero, suc, ◌≤◌, ◌<◌, List, [], ◌∷◌, ◌++◌, length, Option, Some, None, sym, refl, ap, ◌∙◌, arith}
-use Rattle.std.proofs.lemmas.Option.{none-some, same_Some}
+use Rattle.std.proofs.Common.{◌≡◌, ℕ, zero, suc, ◌≤◌, ◌<◌, List, [], ◌∷◌, ◌++◌, Some, None, refl, arith}
+use Rattle.std.proofs.lemmas.Option.{none-some}
 use Rattle.c_lexer.specs.declared.punctuator.Punctuator.TheVariants as marks
 use Rattle.c_syntax.specs.declared.attribute.Attribute.{Attribute}
 use Rattle.c_syntax.specs.declared.attribute.AttributeText.{AttributeText}
-use Rattle.c_grammar.specs.Input.{Input, Named, mark, identifier}
+use Rattle.c_grammar.specs.Input.{Input, mark, identifier}
 use Rattle.c_grammar.specs.Attributes as grammar
 use Rattle.c_grammar.specs.Attributes.{ReadText, string, kept, Texts, Clause, Single, Group, Attributes}
 use Rattle.c_grammar.specs.Reading.{turns, texts_from, clause_inside, clause, single, group_from, attributes_from, attributes}
@@ -85,12 +85,19 @@ pub group-read : {from : Input} {group : List Attribute} {to : Input} → Group 
 unfolding group_from
 group-read (grammar.Group.last s a b) zero h = absurd (omega (arith, single-turns s))
 group-read (grammar.Group.last {behind = behind} {inner = inner} s a b) (suc left) h =
-    rw (single-read s (other_mark _ marks.OpenParenthesis behind inner a refl) (other_mark _ marks.DoubleColon behind inner a refl),
-      other_mark _ marks.Comma behind inner a refl, a, b) refl
+    rw (
+      single-read s (other_mark _ marks.OpenParenthesis behind inner a refl) (other_mark _ marks.DoubleColon behind inner a refl),
+      other_mark _ marks.Comma behind inner a refl,
+      a,
+      b,
+    ) refl
 group-read (grammar.Group.more s c others) zero h = absurd (omega (arith, single-turns s))
 group-read (grammar.Group.more {behind = behind} {inner = inner} s c others) (suc left) h =
-    rw (single-read s (other_mark _ marks.OpenParenthesis behind inner c refl) (other_mark _ marks.DoubleColon behind inner c refl),
-      c, group-read others left (omega (arith, single-turns s, mark-turns _ behind inner c))) refl
+    rw (
+      single-read s (other_mark _ marks.OpenParenthesis behind inner c refl) (other_mark _ marks.DoubleColon behind inner c refl),
+      c,
+      group-read others left (omega (arith, single-turns s, mark-turns _ behind inner c)),
+    ) refl
 
 attributes-read_from : {from : Input} {list : List Attribute} {to : Input} → Attributes from list to
     → mark marks.OpenBracket to ≡ None → (left : ℕ) → turns from < left → attributes_from left from ≡ Some (list, to)
@@ -99,8 +106,13 @@ attributes-read_from grammar.Attributes.none ends zero h = absurd (omega (arith,
 attributes-read_from grammar.Attributes.none ends (suc left) h = rw ends refl
 attributes-read_from (grammar.Attributes.more a b group others) ends zero h = absurd (omega (arith, h))
 attributes-read_from (grammar.Attributes.more {from = from} {outer = outer} {inner = inner} a b group others) ends (suc left) h =
-    rw (a, b, group-read group (turns inner) (omega arith), attributes-read_from others ends left
-      (omega (arith, mark-turns _ from outer a, mark-turns _ outer inner b, group-turns group))) refl
+    rw (
+      a,
+      b,
+      group-read group (turns inner) (omega arith),
+      attributes-read_from others ends left
+          (omega (arith, mark-turns _ from outer a, mark-turns _ outer inner b, group-turns group)),
+    ) refl
 
 pub attributes-read : {from : Input} {list : List Attribute} {to : Input} → Attributes from list to
     → mark marks.OpenBracket to ≡ None → attributes from ≡ Some (list, to)
@@ -116,31 +128,31 @@ texts-sound zero from texts to e = absurd (none-some _ e)
 texts-sound (suc left) from texts to e = into _ (string from) _ e λ read s found.
     into_either (mark marks.Comma read.rest) _ _ _ found
     (λ _ last. into_past _ _ _ last λ rest m same.
-      let parts = some_pair_parts (read.text ∷ []) texts rest to same in
-      rw (← parts.0, ← parts.1) (grammar.Texts.last s m))
+    let parts = some_pair_parts (read.text ∷ []) texts rest to same in
+    rw (← parts.0, ← parts.1) (grammar.Texts.last s m))
     (λ inner c more. into_onward (texts_from left inner) _ _ more λ others rest known same.
-      let parts = some_pair_parts (read.text ∷ others) texts rest to same in
-      rw (← parts.0, ← parts.1) (grammar.Texts.more s c (texts-sound left inner others rest known)))
+    let parts = some_pair_parts (read.text ∷ others) texts rest to same in
+    rw (← parts.0, ← parts.1) (grammar.Texts.more s c (texts-sound left inner others rest known)))
 
 clause-sound : (from : Input) (texts : List AttributeText) (to : Input) → clause from ≡ Some (texts, to) → Clause from texts to
 unfolding clause clause_inside
 clause-sound from texts to e = into_either (mark marks.OpenParenthesis from) _ _ _ e
     (λ none same. let parts = some_pair_parts [] texts from to same in rw (← parts.0, ← parts.1) grammar.Clause.none)
     (λ inner o more. into_either (mark marks.CloseParenthesis inner) _ _ _ more
-      (λ none found. grammar.Clause.some o (texts-sound (turns inner) inner texts to found))
-      (λ rest c same. let parts = some_pair_parts [] texts rest to same in rw (← parts.0, ← parts.1) (grammar.Clause.empty o c)))
+    (λ none found. grammar.Clause.some o (texts-sound (turns inner) inner texts to found))
+    (λ rest c same. let parts = some_pair_parts [] texts rest to same in rw (← parts.0, ← parts.1) (grammar.Clause.empty o c)))
 
 single-sound : (from : Input) (one : List Attribute) (to : Input) → single from ≡ Some (one, to) → Single from one to
 unfolding single
 single-sound from one to e = into _ (identifier from) _ e λ first n more.
     into_either (mark marks.DoubleColon first.rest) _ _ _ more
     (λ none found. into_onward (clause first.rest) _ _ found λ texts rest c same.
-      let parts = some_pair_parts [] one rest to same in
-      rw (← parts.0, ← parts.1) (grammar.Single.unprefixed n (clause-sound first.rest texts rest c)))
+    let parts = some_pair_parts [] one rest to same in
+    rw (← parts.0, ← parts.1) (grammar.Single.unprefixed n (clause-sound first.rest texts rest c)))
     (λ inner m found. into _ (identifier inner) _ found λ second k last.
-      into_onward (clause second.rest) _ _ last λ texts rest c same.
-      let parts = some_pair_parts (kept first.name second.name texts) one rest to same in
-      rw (← parts.0, ← parts.1) (grammar.Single.prefixed n m k (clause-sound second.rest texts rest c)))
+    into_onward (clause second.rest) _ _ last λ texts rest c same.
+    let parts = some_pair_parts (kept first.name second.name texts) one rest to same in
+    rw (← parts.0, ← parts.1) (grammar.Single.prefixed n m k (clause-sound second.rest texts rest c)))
 
 group-sound : (left : ℕ) (from : Input) (group : List Attribute) (to : Input) → group_from left from ≡ Some (group, to) → Group from group to
 unfolding group_from
@@ -148,11 +160,11 @@ group-sound zero from group to e = absurd (none-some _ e)
 group-sound (suc left) from group to e = into_onward (single from) _ _ e λ one rest s found.
     into_either (mark marks.Comma rest) _ _ _ found
     (λ none last. into_past _ _ _ last λ inner a more. into_past _ _ _ more λ end b same.
-      let parts = some_pair_parts one group end to same in
-      rw (← parts.0, ← parts.1) (grammar.Group.last (single-sound from one rest s) a b))
+    let parts = some_pair_parts one group end to same in
+    rw (← parts.0, ← parts.1) (grammar.Group.last (single-sound from one rest s) a b))
     (λ inner c more. into_onward (group_from left inner) _ _ more λ others end known same.
-      let parts = some_pair_parts (one ++ others) group end to same in
-      rw (← parts.0, ← parts.1) (grammar.Group.more (single-sound from one rest s) c (group-sound left inner others end known)))
+    let parts = some_pair_parts (one ++ others) group end to same in
+    rw (← parts.0, ← parts.1) (grammar.Group.more (single-sound from one rest s) c (group-sound left inner others end known)))
 
 attributes-sound_from : (left : ℕ) (from : Input) (list : List Attribute) (to : Input) → attributes_from left from ≡ Some (list, to)
     → Attributes from list to
@@ -161,10 +173,10 @@ attributes-sound_from zero from list to e = absurd (none-some _ e)
 attributes-sound_from (suc left) from list to e = into_either (mark marks.OpenBracket from) _ _ _ e
     (λ none same. let parts = some_pair_parts [] list from to same in rw (← parts.0, ← parts.1) grammar.Attributes.none)
     (λ outer a found. into_past _ _ _ found λ inner b more. into_onward (group_from (turns inner) inner) _ _ more λ group rest g last.
-      into_onward (attributes_from left rest) _ _ last λ others end known same.
-      let parts = some_pair_parts (group ++ others) list end to same in
-      rw (← parts.0, ← parts.1) (grammar.Attributes.more a b (group-sound (turns inner) inner group rest g)
-        (attributes-sound_from left rest others end known)))
+    into_onward (attributes_from left rest) _ _ last λ others end known same.
+    let parts = some_pair_parts (group ++ others) list end to same in
+    rw (← parts.0, ← parts.1) (grammar.Attributes.more a b (group-sound (turns inner) inner group rest g)
+    (attributes-sound_from left rest others end known)))
 
 pub attributes-sound : (from : Input) (list : List Attribute) (to : Input) → attributes from ≡ Some (list, to) → Attributes from list to
 unfolding attributes

@@ -1,12 +1,10 @@
 -- Every expression and every type that the grammar relates is what is read, where it is no deeper than the limit.
-use Rattle.std.proofs.Common.{◌≡◌, ℕ, zero, suc, ◌+◌, ◌≤◌, ◌<◌, max, Bool, true, false, List, [], ◌∷◌, map, Option, Some, None, sym, refl, ap, ◌∙◌, arith, rules}
+use Rattle.std.proofs.Common.{◌≡◌, ℕ, zero, suc, ◌+◌, ◌≤◌, ◌<◌, Bool, true, false, List, [], ◌∷◌, map, Some, None, refl, ◌∙◌, arith, rules}
 use denote.Enum.Bare.{sameb}
 use Rattle.std.proofs.lemmas.Bool.{false≢true}
 use Rattle.c_lexer.specs.contracts.punctuator.Punctuator as punctuator
 use Rattle.std.specs.Prelude.{IsTrue}
-use Rattle.std.specs.List.{list_all}
 use Rattle.c_lexer.specs.declared.keyword.Keyword.{Keyword}
-use Rattle.c_lexer.specs.declared.token.Token.{Token}
 use Rattle.c_lexer.specs.declared.punctuator.Punctuator.{Punctuator}
 use Rattle.c_lexer.specs.declared.punctuator.Punctuator.TheVariants as marks
 use Rattle.c_syntax.specs.declared.specifier.TypeSpecifier.{TypeSpecifier}
@@ -16,7 +14,7 @@ use Rattle.c_syntax.specs.declared.expr.Expr.{Expr}
 use Rattle.c_syntax.specs.declared.expr.ExprKind.TheVariants as kinds
 use Rattle.c_syntax.specs.declared.expr.TypeName.{TypeName}
 use Rattle.c_syntax.specs.Depth.{expression_depth, specifier_depth, deepest, array_depth}
-use Rattle.c_grammar.specs.Input.{Input, Named, mark, identifier, declares}
+use Rattle.c_grammar.specs.Input.{Input, mark}
 use Rattle.c_grammar.specs.Operators as operators
 use Rattle.c_grammar.specs.Operators.{behind, level_of, left_level}
 use Rattle.c_grammar.specs.Specifiers as types
@@ -27,10 +25,10 @@ use Rattle.c_grammar.specs.Depths.{type_name_depth, enumerator_depth}
 use Rattle.c_grammar.specs.Reading as reading
 use Rattle.c_grammar.specs.Reading.{turns, nested, expression_with}
 use Rattle.c_grammar.proofs.Depths.{depth-Parenthesized, depth-Subscript, depth-Call, depth-Atomic, depth-Member, depth-PointerMember, depth-Postfix, depth-Prefix, depth-Unary, depth-SizeOfExpr, depth-SizeOfType, depth-AlignOf, depth-Cast, depth-Binary, depth-Logical, depth-Conditional, depth-Assignment, depth-Comma, depth-type_name, depth-Enumerator, depth-Enumeration}
-use Rattle.c_grammar.proofs.Terminals.{NextIs, next_is, no_mark_at, no_word_at, no_word_at_mark, other_mark, mark-turns, start-turns, behind-turns, identifier-turns, no_mark_at_identifier}
-use Rattle.c_grammar.proofs.AttributesRead.{attributes-read, attributes-turns}
-use Rattle.c_grammar.proofs.TypesRead.{words-turns, no-other, no_mark_at_word, modifier-specifier, qualifier-specifier, pointers-read, pointers-turns}
-use Rattle.c_grammar.proofs.Sizes.{expression-turns, arguments-turns, list-turns, lengths-turns, type-turns, specified-turns, single-turns, constants-turns, constant-turns, expression-deep}
+use Rattle.c_grammar.proofs.Terminals.{NextIs, next_is, no_mark_at, no_word_at, other_mark, mark-turns, identifier-turns, no_mark_at_identifier}
+use Rattle.c_grammar.proofs.AttributesRead.{attributes-read}
+use Rattle.c_grammar.proofs.TypesRead.{no-other, no_mark_at_word, modifier-specifier, pointers-read}
+use Rattle.c_grammar.proofs.Sizes.{expression-turns, constant-turns, expression-deep}
 use Rattle.c_grammar.proofs.ExpressionsRead as read
 use Rattle.c_grammar.proofs.ExpressionsRead.{Follows, Ends, EndsType, ends-follows, follows-tighter, ends_at, ends_at_comma, follows_before, settled, settles_tighter, settles_1, settles_2, settles_unary, no_type_here, no_mark_here, no_cast_here, specified-deep, single_here, type_here, binary-levels, logical-levels}
 
@@ -145,9 +143,9 @@ before_pointers (types.Pointers.more {from = from} {behind = behind} m w others)
 
 ends_words : (from : Input) → AtMark begins_declarator from → EndsType from
 ends_words from a = record {
-    words = no_word_at a.punctuator is_specifier_word from a.next;
-    brace = no_mark_at a.punctuator marks.OpenBrace from a.next (not_brace a.punctuator a.passes);
-  }
+  words = no_word_at a.punctuator is_specifier_word from a.next;
+  brace = no_mark_at a.punctuator marks.OpenBrace from a.next (not_brace a.punctuator a.passes);
+}
 
 module _ (limit : ℕ) where
   -- what an expression's derivation gives
@@ -182,37 +180,37 @@ module _ (limit : ℕ) where
     complete (grammar.Expression.name {from = from} {text = text} {place = place} {to = to} s) room wanted deep within h f =
         read.begins_climb limit room wanted 15 from _ to
         (read.begun_start limit (nested limit room) from _ place to s
-          ∙ read.name_is limit (nested limit room) text place to f.opens within) h
+        ∙ read.name_is limit (nested limit room) text place to f.opens within) h
     complete (grammar.Expression.parenthesized {from = from} {place = place} {inner = inner} {tree = tree} {behind = rest} {to = to} s e m)
         room wanted deep within h f =
         let d = depth-Parenthesized place tree in
         read.begins_climb limit room wanted 15 from _ to
         (read.begun_start limit (nested limit room) from _ place inner s
-          ∙ read.parenthesized_is limit (nested limit room) place inner tree rest to (no_type_here e)
-          (part 0 inner tree rest e (λ r w. complete e r w) room (omega (arith, d, deep)) (omega (arith, d, within))
-            (ends_at 0 _ rest (next_is _ rest to m) refl refl)) m within) h
+        ∙ read.parenthesized_is limit (nested limit room) place inner tree rest to (no_type_here e)
+        (part 0 inner tree rest e (λ r w. complete e r w) room (omega (arith, d, deep)) (omega (arith, d, within))
+        (ends_at 0 _ rest (next_is _ rest to m) refl refl)) m within) h
     complete (grammar.Expression.call {from = from} {text = text} {place = place} {behind = rest} {inner = inner} {arguments = args} {to = to} s m a)
         room wanted deep within h f =
         let d = depth-Call place text args in
         read.begins_climb limit room wanted 15 from _ to
         (read.begun_start limit (nested limit room) from _ place rest s
-          ∙ read.called_is limit (nested limit room) text place rest inner args to m
-          (arguments-read a room (omega (arith, d, deep)) (omega (arith, d, within))) within) h
+        ∙ read.called_is limit (nested limit room) text place rest inner args to m
+        (arguments-read a room (omega (arith, d, deep)) (omega (arith, d, within))) within) h
     complete (grammar.Expression.atomic {from = from} {operation = o} {place = place} {behind = rest} {inner = inner} {arguments = args} {to = to} s m a)
         room wanted deep within h f =
         let d = depth-Atomic place o args in
         read.begins_climb limit room wanted 15 from _ to
         (read.begun_start limit (nested limit room) from _ place rest s
-          ∙ read.atomic_is limit (nested limit room) o place rest inner args to m
-          (arguments-read a room (omega (arith, d, deep)) (omega (arith, d, within))) within) h
+        ∙ read.atomic_is limit (nested limit room) o place rest inner args to m
+        (arguments-read a room (omega (arith, d, deep)) (omega (arith, d, within))) within) h
     complete (grammar.Expression.subscript {from = from} {array = array} {behind = before} {inner = inner} {index = index} {close = close} {to = to} l c e m)
         room wanted deep within h f =
         let d = depth-Subscript array.place array index in
         read.grows limit room wanted from array _ 15 operators.Subscript before inner to
         (complete l room wanted (omega (arith, d, deep)) (omega (arith, d, within)) h (follows_before before _ c)) c h (omega arith)
         (read.subscript_is limit (nested limit room) array inner index close to
-          (part 0 inner index close e (λ r w. complete e r w) room (omega (arith, d, deep)) (omega (arith, d, within))
-            (ends_at 0 _ close (next_is _ close to m) refl refl)) m within)
+        (part 0 inner index close e (λ r w. complete e r w) room (omega (arith, d, deep)) (omega (arith, d, within))
+        (ends_at 0 _ close (next_is _ close to m) refl refl)) m within)
         (omega (arith, expression-turns e, mark-turns _ close to m))
     complete (grammar.Expression.member {from = from} {object = object} {behind = before} {inner = inner} {named = named} l c n)
         room wanted deep within h f =
@@ -239,56 +237,56 @@ module _ (limit : ℕ) where
         let d = depth-Prefix place o operand in
         read.begins_climb limit room wanted 14 from _ to
         (read.begun_start limit (nested limit room) from _ place inner s
-          ∙ read.operand_is limit (nested limit room) 14 (kinds.Prefix o) place inner operand to
-          (part 14 inner operand to e (λ r w. complete e r w) room (omega (arith, d, deep)) (omega (arith, d, within))
-            (looser_end 13 14 to (omega arith) (settled 14 13 to (settles_unary 14 (omega arith) (omega arith)) f))) within) h
+        ∙ read.operand_is limit (nested limit room) 14 (kinds.Prefix o) place inner operand to
+        (part 14 inner operand to e (λ r w. complete e r w) room (omega (arith, d, deep)) (omega (arith, d, within))
+        (looser_end 13 14 to (omega arith) (settled 14 13 to (settles_unary 14 (omega arith) (omega arith)) f))) within) h
     complete (grammar.Expression.unary {from = from} {operator = o} {place = place} {inner = inner} {operand = operand} {to = to} s e)
         room wanted deep within h f =
         let d = depth-Unary place o operand in
         read.begins_climb limit room wanted 14 from _ to
         (read.begun_start limit (nested limit room) from _ place inner s
-          ∙ read.operand_is limit (nested limit room) 13 (kinds.Unary o) place inner operand to
-          (part 13 inner operand to e (λ r w. complete e r w) room (omega (arith, d, deep)) (omega (arith, d, within))
-            (settled 14 13 to (settles_unary 14 (omega arith) (omega arith)) f)) within) h
+        ∙ read.operand_is limit (nested limit room) 13 (kinds.Unary o) place inner operand to
+        (part 13 inner operand to e (λ r w. complete e r w) room (omega (arith, d, deep)) (omega (arith, d, within))
+        (settled 14 13 to (settles_unary 14 (omega arith) (omega arith)) f)) within) h
     complete (grammar.Expression.size_of_expr {from = from} {place = place} {inner = inner} {operand = operand} {to = to} s e)
         room wanted deep within h f =
         let d = depth-SizeOfExpr place operand in
         read.begins_climb limit room wanted 14 from _ to
         (read.begun_start limit (nested limit room) from _ place inner s
-          ∙ read.size_of_expr_is limit (nested limit room) place inner operand to (no_cast_here e (omega arith))
-          (part 14 inner operand to e (λ r w. complete e r w) room (omega (arith, d, deep)) (omega (arith, d, within))
-            (looser_end 13 14 to (omega arith) (settled 14 13 to (settles_unary 14 (omega arith) (omega arith)) f))) within) h
+        ∙ read.size_of_expr_is limit (nested limit room) place inner operand to (no_cast_here e (omega arith))
+        (part 14 inner operand to e (λ r w. complete e r w) room (omega (arith, d, deep)) (omega (arith, d, within))
+        (looser_end 13 14 to (omega arith) (settled 14 13 to (settles_unary 14 (omega arith) (omega arith)) f))) within) h
     complete (grammar.Expression.size_of_type {from = from} {place = place} {outer = outer} {inner = inner} {name = name} {behind = rest} {to = to} s o t m)
         room wanted deep within h f =
         let d = depth-SizeOfType place name in
         read.begins_climb limit room wanted 14 from _ to
         (read.begun_start limit (nested limit room) from _ place outer s
-          ∙ read.size_of_type_is limit (nested limit room) place outer inner name rest to o (type_here t)
-          (type-read t room to (omega (arith, d, deep)) (omega (arith, d, within)) m) m within) h
+        ∙ read.size_of_type_is limit (nested limit room) place outer inner name rest to o (type_here t)
+        (type-read t room to (omega (arith, d, deep)) (omega (arith, d, within)) m) m within) h
     complete (grammar.Expression.align_of {from = from} {place = place} {outer = outer} {inner = inner} {name = name} {behind = rest} {to = to} s o t m)
         room wanted deep within h f =
         let d = depth-AlignOf place name in
         read.begins_climb limit room wanted 14 from _ to
         (read.begun_start limit (nested limit room) from _ place outer s
-          ∙ read.align_of_is limit (nested limit room) place outer inner name rest to o
-          (type-read t room to (omega (arith, d, deep)) (omega (arith, d, within)) m) m within) h
+        ∙ read.align_of_is limit (nested limit room) place outer inner name rest to o
+        (type-read t room to (omega (arith, d, deep)) (omega (arith, d, within)) m) m within) h
     complete (grammar.Expression.cast {from = from} {place = place} {inner = inner} {target = target} {behind = behind_target} {rest = rest} {operand = operand} {to = to} s t m e)
         room wanted deep within h f =
         let d = depth-Cast place target operand in
         read.begins_climb limit room wanted 13 from _ to
         (read.begun_start limit (nested limit room) from _ place inner s
-          ∙ read.cast_is limit (nested limit room) place inner target behind_target rest operand to (type_here t)
-          (type-read t room rest (omega (arith, d, deep)) (omega (arith, d, within)) m) m
-          (part 13 rest operand to e (λ r w. complete e r w) room (omega (arith, d, deep)) (omega (arith, d, within))
-            (settled 13 13 to (settles_unary 13 (omega arith) (omega arith)) f)) within) h
+        ∙ read.cast_is limit (nested limit room) place inner target behind_target rest operand to (type_here t)
+        (type-read t room rest (omega (arith, d, deep)) (omega (arith, d, within)) m) m
+        (part 13 rest operand to e (λ r w. complete e r w) room (omega (arith, d, deep)) (omega (arith, d, within))
+        (settled 13 13 to (settles_unary 13 (omega arith) (omega arith)) f)) within) h
     complete (grammar.Expression.binary {from = from} {left = left} {behind = before} {operator = o} {inner = inner} {right = right} {to = to} l c r)
         room wanted deep within h f =
         let d = depth-Binary left.place left o right in
         read.grows limit room wanted from left _ (operators.binary_level o) (operators.Binary o) before inner to
         (complete l room wanted (omega (arith, d, deep)) (omega (arith, d, within)) h (follows_before before _ c)) c h (omega arith)
         (read.joined_is limit (nested limit room) (operators.binary_level o) (operators.binary_level o + 1) (kinds.Binary left o) left.place inner right to
-          (part (operators.binary_level o + 1) inner right to r (λ q w. complete r q w) room (omega (arith, d, deep)) (omega (arith, d, within))
-            (next_end (operators.binary_level o) to f)) within)
+        (part (operators.binary_level o + 1) inner right to r (λ q w. complete r q w) room (omega (arith, d, deep)) (omega (arith, d, within))
+        (next_end (operators.binary_level o) to f)) within)
         (omega (arith, expression-turns r))
     complete (grammar.Expression.logical {from = from} {left = left} {behind = before} {operator = o} {inner = inner} {right = right} {to = to} l c r)
         room wanted deep within h f =
@@ -296,8 +294,8 @@ module _ (limit : ℕ) where
         read.grows limit room wanted from left _ (operators.logical_level o) (operators.Logical o) before inner to
         (complete l room wanted (omega (arith, d, deep)) (omega (arith, d, within)) h (follows_before before _ c)) c h (omega arith)
         (read.joined_is limit (nested limit room) (operators.logical_level o) (operators.logical_level o + 1) (kinds.Logical left o) left.place inner right to
-          (part (operators.logical_level o + 1) inner right to r (λ q w. complete r q w) room (omega (arith, d, deep)) (omega (arith, d, within))
-            (next_end (operators.logical_level o) to f)) within)
+        (part (operators.logical_level o + 1) inner right to r (λ q w. complete r q w) room (omega (arith, d, deep)) (omega (arith, d, within))
+        (next_end (operators.logical_level o) to f)) within)
         (omega (arith, expression-turns r))
     complete (grammar.Expression.conditional {from = from} {test = test} {behind = before} {inner = inner} {then = first} {colon = colon} {rest = rest} {otherwise = second} {to = to} t c a m b)
         room wanted deep within h f =
@@ -305,10 +303,10 @@ module _ (limit : ℕ) where
         read.grows limit room wanted from test _ 3 operators.Question before inner to
         (complete t room wanted (omega (arith, d, deep)) (omega (arith, d, within)) (omega arith) (follows_before before _ c)) c h (omega arith)
         (read.conditional_is limit (nested limit room) test inner first colon rest second to
-          (part 0 inner first colon a (λ q w. complete a q w) room (omega (arith, d, deep)) (omega (arith, d, within))
-            (ends_at 0 _ colon (next_is _ colon rest m) refl refl)) m
-          (part 2 rest second to b (λ q w. complete b q w) room (omega (arith, d, deep)) (omega (arith, d, within))
-            (settled 2 2 to settles_2 f)) within)
+        (part 0 inner first colon a (λ q w. complete a q w) room (omega (arith, d, deep)) (omega (arith, d, within))
+        (ends_at 0 _ colon (next_is _ colon rest m) refl refl)) m
+        (part 2 rest second to b (λ q w. complete b q w) room (omega (arith, d, deep)) (omega (arith, d, within))
+        (settled 2 2 to settles_2 f)) within)
         (omega (arith, expression-turns a, mark-turns _ colon rest m, expression-turns b))
     complete (grammar.Expression.assignment {from = from} {target = target} {behind = before} {operator = o} {inner = inner} {value = value} {to = to} l c r)
         room wanted deep within h f =
@@ -316,8 +314,8 @@ module _ (limit : ℕ) where
         read.grows limit room wanted from target _ 14 (operators.Assign o) before inner to
         (complete l room wanted (omega (arith, d, deep)) (omega (arith, d, within)) (omega arith) (follows_before before _ c)) c h (omega arith)
         (read.joined_is limit (nested limit room) 1 1 (kinds.Assignment target o) target.place inner value to
-          (part 1 inner value to r (λ q w. complete r q w) room (omega (arith, d, deep)) (omega (arith, d, within))
-            (settled 1 1 to settles_1 f)) within)
+        (part 1 inner value to r (λ q w. complete r q w) room (omega (arith, d, deep)) (omega (arith, d, within))
+        (settled 1 1 to settles_1 f)) within)
         (omega (arith, expression-turns r))
     complete (grammar.Expression.comma {from = from} {first = first} {behind = before} {inner = inner} {second = second} {to = to} l c r)
         room wanted deep within h f =
@@ -325,8 +323,8 @@ module _ (limit : ℕ) where
         read.grows limit room wanted from first _ 0 operators.Comma before inner to
         (complete l room wanted (omega (arith, d, deep)) (omega (arith, d, within)) h (follows_before before _ c)) c h (omega arith)
         (read.joined_is limit (nested limit room) 0 1 (kinds.Comma first) first.place inner second to
-          (part 1 inner second to r (λ q w. complete r q w) room (omega (arith, d, deep)) (omega (arith, d, within))
-            (settled 0 1 to (settles_tighter 0) f)) within)
+        (part 1 inner second to r (λ q w. complete r q w) room (omega (arith, d, deep)) (omega (arith, d, within))
+        (settled 0 1 to (settles_tighter 0) f)) within)
         (omega (arith, expression-turns r))
 
     pub arguments-read : {from : Input} {arguments : List Expr} {to : Input} → Arguments from arguments to → (room : ℕ)
@@ -344,13 +342,13 @@ module _ (limit : ℕ) where
     list-read (grammar.ArgumentList.last_argument {from = from} {argument = argument} {behind = rest} {to = to} e m) room (suc left) h deep within =
         read.last_argument_is limit (nested limit room) left from argument rest to
         (part 1 from argument rest e (λ r w. complete e r w) room (omega (arith, deep)) (omega (arith, within))
-          (ends_at 1 _ rest (next_is _ rest to m) refl refl)) m
+        (ends_at 1 _ rest (next_is _ rest to m) refl refl)) m
     list-read (grammar.ArgumentList.more_arguments e m others) room zero h deep within = absurd (omega (arith, h, expression-turns e))
     list-read (grammar.ArgumentList.more_arguments {from = from} {argument = argument} {behind = rest} {inner = inner} {arguments = args} {to = to} e m others)
         room (suc left) h deep within =
         read.more_arguments_are limit (nested limit room) left from argument rest inner args to
         (part 1 from argument rest e (λ r w. complete e r w) room (omega (arith, deep)) (omega (arith, within))
-          (ends_at_comma 1 rest (next_is _ rest inner m) (omega arith))) m
+        (ends_at_comma 1 rest (next_is _ rest inner m) (omega arith))) m
         (list-read others room left (omega (arith, h, expression-turns e, mark-turns _ rest inner m)) (omega (arith, deep)) (omega (arith, within)))
 
     pub lengths-read : {from : Input} {lengths : List Expr} {to : Input} → Lengths from lengths to → (room left : ℕ)
@@ -365,9 +363,9 @@ module _ (limit : ℕ) where
         room (suc left) h deep within ends =
         read.more_lengths_are (nested limit room).expression left from inner length close rest lengths to o
         (part 2 inner length close e (λ r w. complete e r w) room (omega (arith, deep)) (omega (arith, within))
-          (ends_at 2 _ close (next_is _ close rest m) refl refl)) m
+        (ends_at 2 _ close (next_is _ close rest m) refl refl)) m
         (lengths-read others room left (omega (arith, h, mark-turns _ from inner o, expression-turns e, mark-turns _ close rest m))
-          (omega (arith, deep)) (omega (arith, within)) ends)
+        (omega (arith, deep)) (omega (arith, within)) ends)
 
     pub type-read : {from : Input} {name : TypeName} {to : Input} → TypeNamed from name to → (room : ℕ) (after : Input)
         → type_name_depth name ≤ room → type_name_depth name ≤ limit → mark marks.CloseParenthesis to ≡ Some after
@@ -384,13 +382,13 @@ module _ (limit : ℕ) where
         let at = before_lengths l n in
         read.nested_type limit room from _ to
         (read.type_is (nested limit room).expression from words type rest count inner lengths to
-          (specified-read s room (omega (arith, inside)) (omega (arith, bounded)) (ends_words rest (before_pointers p at)))
-          (is_true q)
-          (pointers-read p (no_mark_at at.punctuator marks.Star inner at.next (not_star at.punctuator at.passes).0)
-            (no_word_at at.punctuator is_qualifier inner at.next))
-          (read.lengths_are (nested limit room).expression inner lengths to
-            (lengths-read l room (suc (turns inner)) (omega arith) (omega (arith, inside)) (omega (arith, bounded))
-              (no_mark_at marks.CloseParenthesis marks.OpenBracket to n refl))))
+        (specified-read s room (omega (arith, inside)) (omega (arith, bounded)) (ends_words rest (before_pointers p at)))
+        (is_true q)
+        (pointers-read p (no_mark_at at.punctuator marks.Star inner at.next (not_star at.punctuator at.passes).0)
+        (no_word_at at.punctuator is_qualifier inner at.next))
+        (read.lengths_are (nested limit room).expression inner lengths to
+        (lengths-read l room (suc (turns inner)) (omega arith) (omega (arith, inside)) (omega (arith, bounded))
+        (no_mark_at marks.CloseParenthesis marks.OpenBracket to n refl))))
 
     pub specified-read : {from : Input} {words : List Keyword} {type : TypeSpecifier} {to : Input} → Specified from words type to → (room : ℕ)
         → specifier_depth type ≤ suc room → specifier_depth type ≤ limit → EndsType to
@@ -464,4 +462,4 @@ module _ (limit : ℕ) where
         let d = depth-Enumerator named.name value in
         read.valued_is (nested limit room).expression from named inner value rest i m
         (part 2 inner value rest e (λ r w. complete e r w) room (omega (arith, d, deep)) (omega (arith, d, within))
-          (constant_ends p rest n ends))
+        (constant_ends p rest n ends))

@@ -1,27 +1,21 @@
 -- Declarations that the grammar relates are what is read.
 use denote.Enum.Bare.{sameb}
-use Rattle.std.proofs.Common.{◌≡◌, ℕ, zero, suc, ◌+◌, ◌≤◌, ◌<◌, max, Bool, true, false, List, [], ◌∷◌, ◌++◌, map, Option, Some, None, sym, refl, ap, ◌∙◌, arith, rules}
-use Rattle.std.specs.Prelude.{IsTrue}
-use Rattle.std.specs.List.{list_all}
+use Rattle.std.proofs.Common.{◌≡◌, ℕ, zero, suc, ◌+◌, ◌≤◌, ◌<◌, Bool, true, false, List, [], ◌∷◌, map, Some, None, refl, arith, rules}
 use Rattle.std.proofs.lemmas.Bool.{false≢true}
-use Rattle.std.proofs.lemmas.Option.{none-some}
 use Rattle.c_lexer.specs.declared.keyword.Keyword.{Keyword}
 use Rattle.c_lexer.specs.declared.punctuator.Punctuator.{Punctuator}
 use Rattle.c_lexer.specs.declared.punctuator.Punctuator.TheVariants as marks
 use Rattle.c_lexer.specs.contracts.punctuator.Punctuator as punctuator
 use Rattle.c_syntax.specs.declared.name.Name.{Name}
-use Rattle.c_syntax.specs.declared.declarator.AbstractDeclarator.{roll-AbstractDeclarator}
 use Rattle.c_syntax.specs.declared.declarator.Declarator.{Declarator}
 use Rattle.c_syntax.specs.declared.declarator.FunctionDeclarator.{FunctionDeclarator}
 use Rattle.c_syntax.specs.declared.declarator.Parameter.{Parameter}
-use Rattle.c_syntax.specs.declared.declarator.ParameterDeclarator.TheVariants as parameters
 use Rattle.c_syntax.specs.declared.specifier.TypeSpecifier.{TypeSpecifier}
 use Rattle.c_syntax.specs.declared.specifier.TypeSpecifier.TheVariants as specifiers
 use Rattle.c_syntax.specs.declared.expr.Expr.{Expr}
 use Rattle.c_syntax.specs.declared.expr.ExprKind.{the_lemmas}
 use Rattle.c_syntax.specs.Depth.{expression_depth, specifier_depth, deepest, array_depth, declared_depth, parameter_type_depth, parameter_depth, function_depth}
-use Rattle.c_grammar.specs.declared.names.NameKind.TheVariants as names
-use Rattle.c_grammar.specs.Input.{Input, Named, mark, identifier, declares}
+use Rattle.c_grammar.specs.Input.{Input, Named, mark, identifier}
 use Rattle.c_grammar.specs.Specifiers as types
 use Rattle.c_grammar.specs.Specifiers.{word, is_specifier_word, is_qualifier, Pointers, TypeStarted, type_start}
 use Rattle.c_grammar.specs.Expressions as expressions
@@ -33,8 +27,8 @@ use Rattle.c_grammar.specs.Reading.{Reader, turns, nested}
 use Rattle.c_grammar.specs.DeclarationReading as declarations
 use Rattle.c_grammar.proofs.Terminals.{NextIs, next_is, no_mark_at, no_word_at, no_identifier_at, other_mark, mark-turns, identifier-turns, no_mark_at_identifier, no_word_at_identifier, type_start-turns}
 use Rattle.c_grammar.proofs.TypesRead.{pointers-read, pointers-turns}
-use Rattle.c_grammar.proofs.Sizes.{expression-turns, lengths-turns, specified-turns}
-use Rattle.c_grammar.proofs.ExpressionsRead.{Ends, EndsType, ends_at, specified-deep}
+use Rattle.c_grammar.proofs.Sizes.{lengths-turns, specified-turns}
+use Rattle.c_grammar.proofs.ExpressionsRead.{Ends, EndsType}
 use Rattle.c_grammar.proofs.Complete.{complete, part, lengths-read, specified-read, is_true, array-within}
 
 -- ---- depths
@@ -77,9 +71,9 @@ function-turns (grammar.FunctionDeclared.function_declarator {behind = behind} {
 -- an identifier or a `*` ends a type's own words
 ends_at_identifier : (from : Input) (named : Named) → identifier from ≡ Some named → EndsType from
 ends_at_identifier from named i = record {
-    words = no_word_at_identifier is_specifier_word from named i;
-    brace = no_mark_at_identifier marks.OpenBrace from named i;
-  }
+  words = no_word_at_identifier is_specifier_word from named i;
+  brace = no_mark_at_identifier marks.OpenBrace from named i;
+}
 
 pub ends_at_mark : (p : Punctuator) (from : Input) → NextIs p from.tokens → sameb punctuator.the_type marks.OpenBrace p ≡ false → EndsType from
 ends_at_mark p from n differs = record { words = no_word_at p is_specifier_word from n; brace = no_mark_at p marks.OpenBrace from n differs }
@@ -168,37 +162,51 @@ module _ (limit : ℕ) where
   unfolding declarations.parameter declarations.parameter_behind declarations.declared_behind
   parameter-read (grammar.ParameterDeclared.named {specifier = type} s q (grammar.Declared.declared {pointers = count} {named = named} {lengths = lengths} {to = to} p i l)) within a =
       let inside = array-within lengths (count + specifier_depth type) limit
-        (omega (arith, depth-declarator (specifier_depth type) count named.name lengths, within)) in
-      rw (specified-whole s (omega (arith, inside)) (declared_ends (grammar.Declared.declared p i l)), is_true q, pointers_named named p i, i,
-        lengths-whole l inside.0 (no_mark_at a.mark marks.OpenBracket to a.next (after_parameter a.mark a.passes).0)) refl
+      (omega (arith, depth-declarator (specifier_depth type) count named.name lengths, within)) in
+      rw (
+        specified-whole s (omega (arith, inside)) (declared_ends (grammar.Declared.declared p i l)),
+        is_true q,
+        pointers_named named p i,
+        i,
+        lengths-whole l inside.0 (no_mark_at a.mark marks.OpenBracket to a.next (after_parameter a.mark a.passes).0),
+      ) refl
   parameter-read (grammar.ParameterDeclared.unnamed {specifier = type} {pointers = count} {inner = inner} {lengths = lengths} {to = to} s q p l) within a =
       let inside = array-within lengths (count + specifier_depth type) limit (omega (arith, depth-unnamed (specifier_depth type) count lengths, within)) in
       let at = stars_end l a in
       let apart = after_stars at.mark at.passes in
-      rw (specified-whole s (omega (arith, inside)) (pointers_end p (ends_at_mark at.mark inner at.next apart.1)), is_true q,
+      rw (
+        specified-whole s (omega (arith, inside)) (pointers_end p (ends_at_mark at.mark inner at.next apart.1)),
+        is_true q,
         pointers-read p (no_mark_at at.mark marks.Star inner at.next apart.0) (no_word_at at.mark is_qualifier inner at.next),
         no_identifier_at at.mark inner at.next,
-        lengths-whole l inside.0 (no_mark_at a.mark marks.OpenBracket to a.next (after_parameter a.mark a.passes).0)) refl
+        lengths-whole l inside.0 (no_mark_at a.mark marks.OpenBracket to a.next (after_parameter a.mark a.passes).0),
+      ) refl
 
   parameter_list-read : {from : Input} {list : List Parameter} {to : Input} → ParameterList from list to → (left : ℕ) → turns from ≤ left
       → deepest (map parameter_depth list) ≤ limit → declarations.parameters_from whole left from ≡ Some (list, to)
   unfolding declarations.parameters_from
   parameter_list-read (grammar.ParameterList.last {behind = behind} {to = to} p m) zero h within = absurd (omega (arith, h, parameter-turns p, mark-turns _ behind to m))
   parameter_list-read (grammar.ParameterList.last {behind = behind} {to = to} p m) (suc left) h within =
-      rw (parameter-read p (omega (arith, within)) (record { mark = marks.CloseParenthesis; next = next_is _ behind to m; passes = refl }),
-        other_mark _ marks.Comma behind to m refl, m) refl
+      rw (
+        parameter-read p (omega (arith, within)) (record { mark = marks.CloseParenthesis; next = next_is _ behind to m; passes = refl }),
+        other_mark _ marks.Comma behind to m refl,
+        m,
+      ) refl
   parameter_list-read (grammar.ParameterList.more {behind = behind} {inner = inner} p m others) zero h within =
       absurd (omega (arith, h, parameter-turns p, mark-turns _ behind inner m))
   parameter_list-read (grammar.ParameterList.more {behind = behind} {inner = inner} p m others) (suc left) h within =
-      rw (parameter-read p (omega (arith, within)) (record { mark = marks.Comma; next = next_is _ behind inner m; passes = refl }), m,
-        parameter_list-read others left (omega (arith, h, parameter-turns p, mark-turns _ behind inner m)) (omega (arith, within))) refl
+      rw (
+        parameter-read p (omega (arith, within)) (record { mark = marks.Comma; next = next_is _ behind inner m; passes = refl }),
+        m,
+        parameter_list-read others left (omega (arith, h, parameter-turns p, mark-turns _ behind inner m)) (omega (arith, within)),
+      ) refl
 
   -- `void` alone is read as a parameter first
   void_parameter : {from behind to : Input} → BeginsType from types.Void behind → mark marks.CloseParenthesis behind ≡ Some to
       → ParameterList from (record { specifier = specifiers.Void; declarator = unnamed_parameter 0 [] } ∷ []) to
   void_parameter b m = grammar.ParameterList.last
       (grammar.ParameterDeclared.unnamed (expressions.Specified.single_type types.Words.none (expressions.SingleType.void b) types.Words.none) refl
-        types.Pointers.none expressions.Lengths.no_length) m
+      types.Pointers.none expressions.Lengths.no_length) m
 
   void-is_void : is_void (record { specifier = specifiers.Void; declarator = unnamed_parameter 0 [] }) ≡ true
   void-is_void = search (rules, the_lemmas)

@@ -1,9 +1,8 @@
 -- What is read of declarations is related by the grammar.
-use Rattle.std.proofs.Common.{◌≡◌, ℕ, zero, suc, ◌+◌, ◌≤◌, ◌<◌, Bool, true, false, List, [], ◌∷◌, ◌++◌, Option, Some, None, sym, refl, ap, ◌∙◌, subst, arith, rules}
-use Rattle.std.specs.Prelude.{IsTrue}
+use Rattle.std.proofs.Common.{◌≡◌, ℕ, zero, suc, true, List, [], ◌∷◌, ◌++◌, Some, None, refl, ap, ◌∙◌}
 use Rattle.std.specs.List.{list_all, list_any, filter}
 use Rattle.std.proofs.lemmas.Bool.{false≢true}
-use Rattle.std.proofs.lemmas.Option.{none-some, same_Some, some_pair_parts}
+use Rattle.std.proofs.lemmas.Option.{none-some, some_pair_parts}
 use Rattle.c_lexer.specs.declared.keyword.Keyword.{Keyword}
 use Rattle.c_lexer.specs.declared.punctuator.Punctuator.TheVariants as marks
 use Rattle.c_syntax.specs.declared.attribute.Attribute.{Attribute}
@@ -64,16 +63,16 @@ module _ (limit : ℕ) (expression : ℕ → Reader Expr) (s : SoundExpressions 
   parameter-sound from parameter to e = into_onward (reading.specified expression from) _ _ e λ type rest t found.
       into_if (list_all is_qualifier type.0) _ _ _ found
       (λ known more. into_onward (reading.pointers rest) _ _ more λ count inner p next.
-        into_either (identifier inner) _ _ _ next
-        (λ none last. into_onward (reading.lengths expression inner) _ _ last λ lengths end l same.
-          let parts = some_pair_parts (record { specifier = type.1; declarator = unnamed_parameter count lengths }) parameter end to same in
-          rw (← parts.0, ← parts.1) (grammar.ParameterDeclared.unnamed (specified-sound limit expression s from type.0 type.1 rest t) (rw known refl)
-            (pointers-sound rest count inner p) (lengths-sound limit expression s inner lengths end l)))
-        (λ named i last. into_onward (declarations.declared_behind expression count named.name named.rest) _ _ last λ tree end d same.
-          let parts = some_pair_parts (record { specifier = type.1; declarator = parameters.Named tree.0 }) parameter
-            (declares end tree.1.text names.Ordinary) to same in
-          rw (← parts.0, ← parts.1) (grammar.ParameterDeclared.named (specified-sound limit expression s from type.0 type.1 rest t) (rw known refl)
-            (declared_behind-sound count rest inner named tree end (pointers-sound rest count inner p) i d))))
+      into_either (identifier inner) _ _ _ next
+      (λ none last. into_onward (reading.lengths expression inner) _ _ last λ lengths end l same.
+      let parts = some_pair_parts (record { specifier = type.1; declarator = unnamed_parameter count lengths }) parameter end to same in
+      rw (← parts.0, ← parts.1) (grammar.ParameterDeclared.unnamed (specified-sound limit expression s from type.0 type.1 rest t) (rw known refl)
+      (pointers-sound rest count inner p) (lengths-sound limit expression s inner lengths end l)))
+      (λ named i last. into_onward (declarations.declared_behind expression count named.name named.rest) _ _ last λ tree end d same.
+      let parts = some_pair_parts (record { specifier = type.1; declarator = parameters.Named tree.0 }) parameter
+      (declares end tree.1.text names.Ordinary) to same in
+      rw (← parts.0, ← parts.1) (grammar.ParameterDeclared.named (specified-sound limit expression s from type.0 type.1 rest t) (rw known refl)
+      (declared_behind-sound count rest inner named tree end (pointers-sound rest count inner p) i d))))
       (λ known none. absurd (none-some _ none))
 
   parameter_list-sound : (left : ℕ) (from : Input) (list : List Parameter) (to : Input)
@@ -83,10 +82,10 @@ module _ (limit : ℕ) (expression : ℕ → Reader Expr) (s : SoundExpressions 
   parameter_list-sound (suc left) from list to e = into_onward (declarations.parameter expression from) _ _ e λ one rest p found.
       into_either (mark marks.Comma rest) _ _ _ found
       (λ none last. into_past _ _ _ last λ end m same. let parts = some_pair_parts (one ∷ []) list end to same in
-        rw (← parts.0, ← parts.1) (grammar.ParameterList.last (parameter-sound from one rest p) m))
+      rw (← parts.0, ← parts.1) (grammar.ParameterList.last (parameter-sound from one rest p) m))
       (λ inner m more. into_onward (declarations.parameters_from expression left inner) _ _ more λ others end known same.
-        let parts = some_pair_parts (one ∷ others) list end to same in
-        rw (← parts.0, ← parts.1) (grammar.ParameterList.more (parameter-sound from one rest p) m (parameter_list-sound left inner others end known)))
+      let parts = some_pair_parts (one ∷ others) list end to same in
+      rw (← parts.0, ← parts.1) (grammar.ParameterList.more (parameter-sound from one rest p) m (parameter_list-sound left inner others end known)))
 
   is_void : (begin : TypeStart) → declarations.is_void_start begin ≡ true → begin ≡ types.Void
   is_void types.Void e = refl
@@ -98,12 +97,12 @@ module _ (limit : ℕ) (expression : ℕ → Reader Expr) (s : SoundExpressions 
   parameters-sound from list to e = into_onward (declarations.parameters_from expression (turns from) from) _ _ e λ found rest p more.
       into_if (is_void_alone found) _ _ _ more
       (λ known alone. into_past _ _ _ alone λ end v same. let parts = some_pair_parts [] list end to same in
-        into _ (type_start from) _ v λ started b closed. into_if (declarations.is_void_start started.start) _ _ _ closed
-        (λ void m. rw (← parts.0, ← parts.1) (grammar.Parameters.void (b ∙ ap (λ begin. Some (record { start = begin; rest = started.rest }))
-          (is_void started.start void)) m))
-        (λ _ none. absurd (none-some _ none)))
+      into _ (type_start from) _ v λ started b closed. into_if (declarations.is_void_start started.start) _ _ _ closed
+      (λ void m. rw (← parts.0, ← parts.1) (grammar.Parameters.void (b ∙ ap (λ begin. Some (record { start = begin; rest = started.rest }))
+      (is_void started.start void)) m))
+      (λ _ none. absurd (none-some _ none)))
       (λ known same. let parts = some_pair_parts found list rest to same in
-        rw (← parts.0, ← parts.1) (grammar.Parameters.list (parameter_list-sound (turns from) from found rest p) known))
+      rw (← parts.0, ← parts.1) (grammar.Parameters.list (parameter_list-sound (turns from) from found rest p) known))
 
   function_behind-sound : (count : ℕ) (from behind : Input) (named : Named) (inner : Input) (tree : FunctionDeclarator) (to : Input)
       → types.Pointers from count behind → identifier behind ≡ Some named → mark marks.OpenParenthesis named.rest ≡ Some inner
@@ -127,10 +126,10 @@ module _ (limit : ℕ) (expression : ℕ → Reader Expr) (s : SoundExpressions 
   typedef_names-sound (suc left) from list to e = into_onward (declarations.declared expression from) _ _ e λ tree rest d found.
       into_either (mark marks.Comma (declares rest tree.1.text names.Typedef)) _ _ _ found
       (λ none last. into_past _ _ _ last λ end m same. let parts = some_pair_parts (tree.0 ∷ []) list end to same in
-        rw (← parts.0, ← parts.1) (grammar.TypedefNames.last (declared-sound from tree rest d) m))
+      rw (← parts.0, ← parts.1) (grammar.TypedefNames.last (declared-sound from tree rest d) m))
       (λ inner m more. into_onward (declarations.typedef_names_from expression left inner) _ _ more λ others end known same.
-        let parts = some_pair_parts (tree.0 ∷ others) list end to same in
-        rw (← parts.0, ← parts.1) (grammar.TypedefNames.more (declared-sound from tree rest d) m (typedef_names-sound left inner others end known)))
+      let parts = some_pair_parts (tree.0 ∷ others) list end to same in
+      rw (← parts.0, ← parts.1) (grammar.TypedefNames.more (declared-sound from tree rest d) m (typedef_names-sound left inner others end known)))
 
   member_names-sound : (left : ℕ) (from : Input) (list : List Declarator) (to : Input)
       → declarations.member_names_from expression left from ≡ Some (list, to) → MemberNames from list to
@@ -139,10 +138,10 @@ module _ (limit : ℕ) (expression : ℕ → Reader Expr) (s : SoundExpressions 
   member_names-sound (suc left) from list to e = into_onward (declarations.declared expression from) _ _ e λ tree rest d found.
       into_either (mark marks.Comma rest) _ _ _ found
       (λ none last. into_past _ _ _ last λ end m same. let parts = some_pair_parts (tree.0 ∷ []) list end to same in
-        rw (← parts.0, ← parts.1) (grammar.MemberNames.last (declared-sound from tree rest d) m))
+      rw (← parts.0, ← parts.1) (grammar.MemberNames.last (declared-sound from tree rest d) m))
       (λ inner m more. into_onward (declarations.member_names_from expression left inner) _ _ more λ others end known same.
-        let parts = some_pair_parts (tree.0 ∷ others) list end to same in
-        rw (← parts.0, ← parts.1) (grammar.MemberNames.more (declared-sound from tree rest d) m (member_names-sound left inner others end known)))
+      let parts = some_pair_parts (tree.0 ∷ others) list end to same in
+      rw (← parts.0, ← parts.1) (grammar.MemberNames.more (declared-sound from tree rest d) m (member_names-sound left inner others end known)))
 
   initialized-sound : (from : Input) (one : InitDeclarator) (to : Input) → declarations.initialized expression from ≡ Some (one, to)
       → Initialized from one to
@@ -150,17 +149,17 @@ module _ (limit : ℕ) (expression : ℕ → Reader Expr) (s : SoundExpressions 
   initialized-sound from one to e = into_onward (reading.pointers from) _ _ e λ count rest p found. into _ (identifier rest) _ found λ named i more.
       into_either (mark marks.OpenParenthesis named.rest) _ _ _ more
       (λ none object. into_onward (declarations.declared_behind expression count named.name named.rest) _ _ object λ tree behind d last.
-        let declared = declared_behind-sound count from rest named tree behind (pointers-sound from count rest p) i d in
-        into_either (mark marks.Assign (declares behind tree.1.text names.Ordinary)) _ _ _ last
-        (λ none same. let parts = some_pair_parts (declarators.Object tree.0 None) one (declares behind tree.1.text names.Ordinary) to same in
-          rw (← parts.0, ← parts.1) (grammar.Initialized.object declared))
-        (λ inner m value. into_onward (expression 1 inner) _ _ value λ v end k same.
-          let parts = some_pair_parts (declarators.Object tree.0 (Some v)) one end to same in
-          rw (← parts.0, ← parts.1) (grammar.Initialized.initialized declared m (s.sound 1 inner v end k).0)))
+      let declared = declared_behind-sound count from rest named tree behind (pointers-sound from count rest p) i d in
+      into_either (mark marks.Assign (declares behind tree.1.text names.Ordinary)) _ _ _ last
+      (λ none same. let parts = some_pair_parts (declarators.Object tree.0 None) one (declares behind tree.1.text names.Ordinary) to same in
+      rw (← parts.0, ← parts.1) (grammar.Initialized.object declared))
+      (λ inner m value. into_onward (expression 1 inner) _ _ value λ v end k same.
+      let parts = some_pair_parts (declarators.Object tree.0 (Some v)) one end to same in
+      rw (← parts.0, ← parts.1) (grammar.Initialized.initialized declared m (s.sound 1 inner v end k).0)))
       (λ inner o function. into_onward (declarations.function_behind expression count named.name inner) _ _ function λ tree end f same.
-        let parts = some_pair_parts (declarators.Function tree) one (behind_function from tree end) to same in
-        rw (← parts.0, ← parts.1) (grammar.Initialized.function
-          (function_behind-sound count from rest named inner tree end (pointers-sound from count rest p) i o f)))
+      let parts = some_pair_parts (declarators.Function tree) one (behind_function from tree end) to same in
+      rw (← parts.0, ← parts.1) (grammar.Initialized.function
+      (function_behind-sound count from rest named inner tree end (pointers-sound from count rest p) i o f)))
 
   initialized_names-sound : (left : ℕ) (from : Input) (list : List InitDeclarator) (to : Input)
       → declarations.initialized_names_from expression left from ≡ Some (list, to) → InitializedNames from list to
@@ -169,10 +168,10 @@ module _ (limit : ℕ) (expression : ℕ → Reader Expr) (s : SoundExpressions 
   initialized_names-sound (suc left) from list to e = into_onward (declarations.initialized expression from) _ _ e λ one rest d found.
       into_either (mark marks.Comma rest) _ _ _ found
       (λ none last. into_past _ _ _ last λ end m same. let parts = some_pair_parts (one ∷ []) list end to same in
-        rw (← parts.0, ← parts.1) (grammar.InitializedNames.last (initialized-sound from one rest d) m))
+      rw (← parts.0, ← parts.1) (grammar.InitializedNames.last (initialized-sound from one rest d) m))
       (λ inner m more. into_onward (declarations.initialized_names_from expression left inner) _ _ more λ others end known same.
-        let parts = some_pair_parts (one ∷ others) list end to same in
-        rw (← parts.0, ← parts.1) (grammar.InitializedNames.more (initialized-sound from one rest d) m (initialized_names-sound left inner others end known)))
+      let parts = some_pair_parts (one ∷ others) list end to same in
+      rw (← parts.0, ← parts.1) (grammar.InitializedNames.more (initialized-sound from one rest d) m (initialized_names-sound left inner others end known)))
 
   pub function_names-sound : (left : ℕ) (from : Input) (list : List InitDeclarator) (to : Input)
       → declarations.function_names_from expression left from ≡ Some (list, to) → FunctionNames from list to
@@ -181,10 +180,10 @@ module _ (limit : ℕ) (expression : ℕ → Reader Expr) (s : SoundExpressions 
   function_names-sound (suc left) from list to e = into_onward (declarations.function_declared expression from) _ _ e λ tree rest f found.
       into_either (mark marks.Comma (behind_function from tree rest)) _ _ _ found
       (λ none last. into_past _ _ _ last λ end m same. let parts = some_pair_parts (declarators.Function tree ∷ []) list end to same in
-        rw (← parts.0, ← parts.1) (grammar.FunctionNames.last (function-sound from tree rest f) m))
+      rw (← parts.0, ← parts.1) (grammar.FunctionNames.last (function-sound from tree rest f) m))
       (λ inner m more. into_onward (declarations.function_names_from expression left inner) _ _ more λ others end known same.
-        let parts = some_pair_parts (declarators.Function tree ∷ others) list end to same in
-        rw (← parts.0, ← parts.1) (grammar.FunctionNames.more (function-sound from tree rest f) m (function_names-sound left inner others end known)))
+      let parts = some_pair_parts (declarators.Function tree ∷ others) list end to same in
+      rw (← parts.0, ← parts.1) (grammar.FunctionNames.more (function-sound from tree rest f) m (function_names-sound left inner others end known)))
 
   pub local-sound : (from : Input) (tree : Declaration) (to : Input) → declarations.local_declaration expression from ≡ Some (tree, to)
       → LocalDeclaration from tree to
@@ -193,21 +192,21 @@ module _ (limit : ℕ) (expression : ℕ → Reader Expr) (s : SoundExpressions 
       let specified = specified-sound limit expression s from type.0 type.1 rest t in
       into_if (is_local type.0) _ _ _ found
       (λ local more. into_if (is_typedef type.0) _ _ _ more
-        (λ typedef next. into_if (agrees type.0) _ _ _ next
-          (λ agree last. into_onward (declarations.typedef_names_from expression (turns rest) rest) _ _ last λ list end n same.
-            let parts = some_pair_parts (declaration type.1 (kinds.Typedef list)) tree end to same in
-            rw (← parts.0, ← parts.1) (grammar.LocalDeclaration.typedefs specified (rw local refl) (rw agree refl) typedef
-              (typedef_names-sound (turns rest) rest list end n)))
-          (λ _ none. absurd (none-some _ none)))
-        (λ typedef next. into_either (mark marks.Semicolon rest) _ _ _ next
-          (λ none last. into_onward (declarations.initialized_names_from expression (turns rest) rest) _ _ last λ list end n same.
-            let parts = some_pair_parts (declaration type.1 (kinds.Names list)) tree end to same in
-            rw (← parts.0, ← parts.1) (grammar.LocalDeclaration.declared_names specified (rw local refl) typedef
-              (initialized_names-sound (turns rest) rest list end n)))
-          (λ end m last. into_if (declares_tag type.1) _ _ _ last
-            (λ tag same. let parts = some_pair_parts (declaration type.1 kinds.TypeOnly) tree end to same in
-              rw (← parts.0, ← parts.1) (grammar.LocalDeclaration.tag specified (rw local refl) typedef (rw tag refl) m))
-            (λ _ none. absurd (none-some _ none)))))
+      (λ typedef next. into_if (agrees type.0) _ _ _ next
+      (λ agree last. into_onward (declarations.typedef_names_from expression (turns rest) rest) _ _ last λ list end n same.
+      let parts = some_pair_parts (declaration type.1 (kinds.Typedef list)) tree end to same in
+      rw (← parts.0, ← parts.1) (grammar.LocalDeclaration.typedefs specified (rw local refl) (rw agree refl) typedef
+      (typedef_names-sound (turns rest) rest list end n)))
+      (λ _ none. absurd (none-some _ none)))
+      (λ typedef next. into_either (mark marks.Semicolon rest) _ _ _ next
+      (λ none last. into_onward (declarations.initialized_names_from expression (turns rest) rest) _ _ last λ list end n same.
+      let parts = some_pair_parts (declaration type.1 (kinds.Names list)) tree end to same in
+      rw (← parts.0, ← parts.1) (grammar.LocalDeclaration.declared_names specified (rw local refl) typedef
+      (initialized_names-sound (turns rest) rest list end n)))
+      (λ end m last. into_if (declares_tag type.1) _ _ _ last
+      (λ tag same. let parts = some_pair_parts (declaration type.1 kinds.TypeOnly) tree end to same in
+      rw (← parts.0, ← parts.1) (grammar.LocalDeclaration.tag specified (rw local refl) typedef (rw tag refl) m))
+      (λ _ none. absurd (none-some _ none)))))
       (λ _ none. absurd (none-some _ none))
 
   -- ---- structs and unions with their members
@@ -220,15 +219,15 @@ module _ (limit : ℕ) (expression : ℕ → Reader Expr) (s : SoundExpressions 
     member-sound from one to e = into_onward (reading.attributes from) _ _ e λ list inner a found.
         into_onward (member_type inner) _ _ found λ type rest t more. into_if (list_all is_qualifier type.0) _ _ _ more
         (λ known next. into_either (mark marks.Semicolon rest) _ _ _ next
-          (λ none last. into_onward (declarations.member_names_from expression (turns rest) rest) _ _ last λ declared end n same.
-            let parts = some_pair_parts (member_declaration list type.1 declared) one end to same in
-            rw (← parts.0, ← parts.1) (grammar.MemberDeclared.members (attributes-sound from list inner a) (m inner type.0 type.1 rest t) (rw known refl)
-              (member_names-sound (turns rest) rest declared end n)))
-          (λ end c last. into_if (declares_tag type.1) _ _ _ last
-            (λ tag same. let parts = some_pair_parts (member_declaration list type.1 []) one end to same in
-              rw (← parts.0, ← parts.1) (grammar.MemberDeclared.no_members (attributes-sound from list inner a) (m inner type.0 type.1 rest t)
-                (rw known refl) (rw tag refl) c))
-            (λ _ none. absurd (none-some _ none))))
+        (λ none last. into_onward (declarations.member_names_from expression (turns rest) rest) _ _ last λ declared end n same.
+        let parts = some_pair_parts (member_declaration list type.1 declared) one end to same in
+        rw (← parts.0, ← parts.1) (grammar.MemberDeclared.members (attributes-sound from list inner a) (m inner type.0 type.1 rest t) (rw known refl)
+        (member_names-sound (turns rest) rest declared end n)))
+        (λ end c last. into_if (declares_tag type.1) _ _ _ last
+        (λ tag same. let parts = some_pair_parts (member_declaration list type.1 []) one end to same in
+        rw (← parts.0, ← parts.1) (grammar.MemberDeclared.no_members (attributes-sound from list inner a) (m inner type.0 type.1 rest t)
+        (rw known refl) (rw tag refl) c))
+        (λ _ none. absurd (none-some _ none))))
         (λ _ none. absurd (none-some _ none))
 
     members-sound : (left : ℕ) (from : Input) (list : List MemberDeclaration) (to : Input)
@@ -238,10 +237,10 @@ module _ (limit : ℕ) (expression : ℕ → Reader Expr) (s : SoundExpressions 
     members-sound (suc left) from list to e = into_onward (declarations.member expression member_type from) _ _ e λ one rest d found.
         into_either (mark marks.CloseBrace rest) _ _ _ found
         (λ none more. into_onward (declarations.members_from expression member_type left rest) _ _ more λ others end known same.
-          let parts = some_pair_parts (one ∷ others) list end to same in
-          rw (← parts.0, ← parts.1) (grammar.Members.more_members (member-sound from one rest d) (members-sound left rest others end known)))
+        let parts = some_pair_parts (one ∷ others) list end to same in
+        rw (← parts.0, ← parts.1) (grammar.Members.more_members (member-sound from one rest d) (members-sound left rest others end known)))
         (λ end c same. let parts = some_pair_parts (one ∷ []) list end to same in
-          rw (← parts.0, ← parts.1) (grammar.Members.last_member (member-sound from one rest d) c))
+        rw (← parts.0, ← parts.1) (grammar.Members.last_member (member-sound from one rest d) c))
 
     -- a type that a definition or a single word gives, with the modifiers round it
     Around : TypeSpecifier → Input → Input → Type 0
@@ -255,17 +254,17 @@ module _ (limit : ℕ) (expression : ℕ → Reader Expr) (s : SoundExpressions 
     record-sound : (kind : RecordKind) (from outer : Input) (type : TypeSpecifier) (to : Input) → BeginsType from (grammar.record_start kind) outer
         → declarations.record_or_definition expression member_type kind outer ≡ Some (type, to)
         → ((list : List Attribute) (rest : Input) (tag : Named) → Attributes outer list rest → identifier rest ≡ Some tag
-          → SingleType from (specifiers.Record kind list tag.name) tag.rest)
+        → SingleType from (specifiers.Record kind list tag.name) tag.rest)
         → Around type from to
     unfolding declarations.record_or_definition declarations.record_behind Around
     record-sound kind from outer type to b e k = into_onward (reading.attributes outer) _ _ e λ list rest a found.
         into _ (identifier rest) _ found λ tag i more. into_either (mark marks.OpenBrace tag.rest) _ _ _ more
         (λ none same. let parts = some_pair_parts (specifiers.Record kind list tag.name) type tag.rest to same in
-          rw (← parts.0, ← parts.1) (plain (specifiers.Record kind list tag.name) from tag.rest (k list rest tag (attributes-sound outer list rest a) i)))
+        rw (← parts.0, ← parts.1) (plain (specifiers.Record kind list tag.name) from tag.rest (k list rest tag (attributes-sound outer list rest a) i)))
         (λ inner o last. into_onward (declarations.members_from expression member_type (turns inner) inner) _ _ last λ members end c same.
-          let parts = some_pair_parts (specifiers.RecordDefinition (definition kind list tag.name members)) type end to same in
-          rw (← parts.0, ← parts.1) (λ before after start stop x y. grammar.Defining.defined x
-            (grammar.RecordDefined.record_of kind b (attributes-sound outer list rest a) i o (members-sound (turns inner) inner members end c)) y))
+        let parts = some_pair_parts (specifiers.RecordDefinition (definition kind list tag.name members)) type end to same in
+        rw (← parts.0, ← parts.1) (λ before after start stop x y. grammar.Defining.defined x
+        (grammar.RecordDefined.record_of kind b (attributes-sound outer list rest a) i o (members-sound (turns inner) inner members end c)) y))
 
     by-sound : (begin : TypeStart) (from rest : Input) (type : TypeSpecifier) (to : Input) → BeginsType from begin rest
         → declarations.defining_by expression member_type begin rest ≡ Some (type, to) → Around type from to
@@ -287,18 +286,18 @@ module _ (limit : ℕ) (expression : ℕ → Reader Expr) (s : SoundExpressions 
     with-sound from words type to e = into_onward (reading.words is_specifier_word from) _ _ e λ before rest w found.
         into_if (list_any is_integer_word before) _ _ _ found
         (λ known more. into _ (integer_type before) _ more λ integer i same.
-          let parts = some_pair_parts {A = List Keyword × TypeSpecifier} (filter is_modifier before, specifiers.Integer integer) (words, type) rest to same in
-          let inner = pair_parts (filter is_modifier before) words (specifiers.Integer integer) type parts.0 in
-          rw (← inner.0, ← inner.1, ← parts.1)
-          (grammar.Defining.specified (expressions.Specified.integer_words (words-sound is_specifier_word from before rest w) i)))
+        let parts = some_pair_parts {A = List Keyword × TypeSpecifier} (filter is_modifier before, specifiers.Integer integer) (words, type) rest to same in
+        let inner = pair_parts (filter is_modifier before) words (specifiers.Integer integer) type parts.0 in
+        rw (← inner.0, ← inner.1, ← parts.1)
+        (grammar.Defining.specified (expressions.Specified.integer_words (words-sound is_specifier_word from before rest w) i)))
         (λ known more. into_onward (option_start rest) _ _ more λ specifier behind t last.
-          into_onward (reading.words is_modifier behind) _ _ last λ after end a same.
-          let parts = some_pair_parts {A = List Keyword × TypeSpecifier} (before ++ after, specifier) (words, type) end to same in
-          let inner = pair_parts (before ++ after) words specifier type parts.0 in
-          into _ (type_start rest) _ t λ started b by.
-          rw (← inner.0, ← inner.1, ← parts.1)
-          (by-sound started.start rest started.rest specifier behind b by before after from end
-            (words-modifiers (words-sound is_specifier_word from before rest w) known) (words-sound is_modifier behind after end a)))
+        into_onward (reading.words is_modifier behind) _ _ last λ after end a same.
+        let parts = some_pair_parts {A = List Keyword × TypeSpecifier} (before ++ after, specifier) (words, type) end to same in
+        let inner = pair_parts (before ++ after) words specifier type parts.0 in
+        into _ (type_start rest) _ t λ started b by.
+        rw (← inner.0, ← inner.1, ← parts.1)
+        (by-sound started.start rest started.rest specifier behind b by before after from end
+        (words-modifiers (words-sound is_specifier_word from before rest w) known) (words-sound is_modifier behind after end a)))
       where
         option_start : Reader TypeSpecifier
         option_start = declarations.defining_type expression member_type

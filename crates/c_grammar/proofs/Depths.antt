@@ -1,5 +1,5 @@
 -- How deep the node of each production is.
-use Rattle.std.proofs.Common.{◌≡◌, ℕ, suc, ◌+◌, max, List, [], ◌∷◌, map, Option, Some, None, unwrap_or, rules}
+use Rattle.std.proofs.Common.{◌≡◌, ℕ, ◌+◌, max, List, map, Option, Some, None, rules}
 use Rattle.rc_text.specs.declared.place.Place.{Place}
 use Rattle.c_lexer.specs.declared.atomic_operation.AtomicOperation.{AtomicOperation}
 use Rattle.c_lexer.specs.declared.token.IntegerConstant.{IntegerConstant}
@@ -16,13 +16,13 @@ use Rattle.c_syntax.specs.declared.specifier.TypeSpecifier.TheVariants as specif
 use Rattle.c_lexer.specs.declared.header_type.HeaderType.{HeaderType}
 use Rattle.c_syntax.specs.declared.specifier.IntegerType.{IntegerType}
 use Rattle.c_syntax.specs.declared.specifier.RecordKind.{RecordKind}
-use Rattle.c_syntax.specs.declared.specifier.EnumDefinition.{EnumDefinition, roll-EnumDefinition}
+use Rattle.c_syntax.specs.declared.specifier.EnumDefinition.{roll-EnumDefinition}
 use Rattle.c_syntax.specs.declared.specifier.Enumerator.{Enumerator, roll-Enumerator}
 use Rattle.c_syntax.specs.declared.expr.Expr.{Expr}
-use Rattle.c_syntax.specs.declared.expr.ExprKind.{ExprKind, the_lemmas}
+use Rattle.c_syntax.specs.declared.expr.ExprKind.{the_lemmas}
 use Rattle.c_syntax.specs.declared.expr.ExprKind.TheVariants as kinds
 use Rattle.c_syntax.specs.declared.expr.TypeName.{TypeName}
-use Rattle.c_syntax.specs.Depth.{expression_depth, specifier_depth, deepest, array_depth, expression_step, specifier_step, abstract_step, declarator_step, members_step}
+use Rattle.c_syntax.specs.Depth.{expression_depth, specifier_depth, deepest, array_depth}
 use Rattle.c_grammar.specs.Expressions.{node, type_name}
 use Rattle.c_grammar.specs.Depths.{type_name_depth, enumerator_depth}
 
@@ -118,23 +118,32 @@ depth-Implicit name = search (rules, the_lemmas)
 
 pub depth-Enumeration : (attributes : List Attribute) (tag : Option Name) (es : List Enumerator)
     → specifier_depth (specifiers.EnumDefinition (roll-EnumDefinition (record {
-        attributes = attributes; tag = tag; enumerators = es })))
+      attributes = attributes;
+      tag = tag;
+      enumerators = es;
+    })))
     ≡ 1 + deepest (map enumerator_depth es)
 depth-Enumeration attributes tag es = search (rules, the_lemmas)
 
 -- single words and tags are one node
 pub depth-Integer-type : (type : IntegerType) → specifier_depth (specifiers.Integer type) ≡ 1
 depth-Integer-type type = search (rules, the_lemmas)
+
 pub depth-Void : specifier_depth specifiers.Void ≡ 1
 depth-Void = search (rules, the_lemmas)
+
 pub depth-Bool : specifier_depth specifiers.Bool ≡ 1
 depth-Bool = search (rules, the_lemmas)
+
 pub depth-Typedef : (text : List ℕ) → specifier_depth (specifiers.Typedef text) ≡ 1
 depth-Typedef text = search (rules, the_lemmas)
+
 pub depth-Header : (type : HeaderType) → specifier_depth (specifiers.Header type) ≡ 1
 depth-Header type = search (rules, the_lemmas)
+
 pub depth-Record : (kind : RecordKind) (attributes : List Attribute) (tag : Name)
     → specifier_depth (specifiers.Record kind attributes tag) ≡ 1
 depth-Record kind attributes tag = search (rules, the_lemmas)
+
 pub depth-Enum : (attributes : List Attribute) (tag : Name) → specifier_depth (specifiers.Enum attributes tag) ≡ 1
 depth-Enum attributes tag = search (rules, the_lemmas)

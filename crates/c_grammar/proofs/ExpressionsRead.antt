@@ -1,7 +1,6 @@
 -- Expressions and types that the grammar relates are what is read.
 use denote.Enum.Bare.{sameb}
-use Rattle.std.proofs.Common.{◌≡◌, ℕ, zero, suc, ◌+◌, ◌≤◌, ◌<◌, ◌⊎◌, max, Bool, true, false, List, [], ◌∷◌, ◌++◌, map, Option, Some, None, sym, refl, ap, ◌∙◌, subst, arith}
-use Rattle.std.specs.Prelude.{IsTrue}
+use Rattle.std.proofs.Common.{◌≡◌, ℕ, zero, suc, ◌≤◌, ◌<◌, ◌⊎◌, true, false, List, [], ◌∷◌, ◌++◌, Option, Some, None, sym, refl, ap, ◌∙◌, arith}
 use mathlib.Core.Logic.{inl, inr}
 use Rattle.std.specs.List.{list_all, list_any, filter}
 use Rattle.std.proofs.lemmas.Bool.{false≢true}
@@ -21,7 +20,7 @@ use Rattle.c_syntax.specs.declared.specifier.TypeSpecifier.{TypeSpecifier}
 use Rattle.c_syntax.specs.declared.specifier.TypeSpecifier.TheVariants as specifiers
 use Rattle.c_syntax.specs.declared.specifier.IntegerType.{IntegerType}
 use Rattle.c_syntax.specs.declared.specifier.RecordKind.{RecordKind}
-use Rattle.c_syntax.specs.declared.specifier.EnumDefinition.{EnumDefinition, roll-EnumDefinition}
+use Rattle.c_syntax.specs.declared.specifier.EnumDefinition.{roll-EnumDefinition}
 use Rattle.c_syntax.specs.declared.specifier.Enumerator.{Enumerator, roll-Enumerator}
 use Rattle.c_syntax.specs.declared.attribute.Attribute.{Attribute}
 use Rattle.c_grammar.specs.declared.names.NameKind.TheVariants as names
@@ -29,11 +28,11 @@ use Rattle.c_syntax.specs.declared.expr.Expr.{Expr}
 use Rattle.c_syntax.specs.declared.expr.ExprKind.{ExprKind}
 use Rattle.c_syntax.specs.declared.expr.ExprKind.TheVariants as kinds
 use Rattle.c_syntax.specs.declared.expr.TypeName.{TypeName}
-use Rattle.c_syntax.specs.Depth.{expression_depth, specifier_depth, deepest}
+use Rattle.c_syntax.specs.Depth.{expression_depth, specifier_depth}
 use Rattle.c_grammar.specs.Input.{Input, Named, mark, identifier, declares}
 use Rattle.c_grammar.specs.Operators as operators
 use Rattle.c_grammar.specs.Operators.{Start, Started, start, TakenInfix, behind, binary_level, logical_level, level_of, left_level}
-use Rattle.c_grammar.specs.Specifiers.{word, is_specifier_word, is_integer_word, is_modifier, is_qualifier, integer_type, TypeStart, Words, Pointers}
+use Rattle.c_grammar.specs.Specifiers.{word, is_specifier_word, is_integer_word, is_modifier, is_qualifier, integer_type, TypeStart, Words}
 use Rattle.c_grammar.specs.Expressions as grammar
 use Rattle.c_grammar.specs.Expressions.{node, Expression, Arguments, ArgumentList, Lengths, TypeNamed, Specified, SingleType, Enumerators, Constant}
 use Rattle.c_grammar.specs.Reading as reading
@@ -41,10 +40,8 @@ use Rattle.c_grammar.specs.Reading.{turns, Reader, Nested, Begun, nested, made, 
 use Rattle.c_syntax.specs.declared.specifier.RecordKind.TheVariants as records
 use Rattle.c_grammar.proofs.Depths.{depth-Integer-type, depth-Void, depth-Bool, depth-Typedef, depth-Header, depth-Record, depth-Enum, depth-Enumeration}
 use Rattle.c_grammar.proofs.Steps.{is_le, is_not_le}
-use Rattle.c_grammar.proofs.Terminals.{NextIs, next_is, no_mark_at, no_word_at, nothing_behind_at, behind_at, no_open_behind, other_mark, behind-turns, mark-turns, start-turns, identifier-turns, is_open, open_at_start, no_open_at_start, no_word_at_mark, no_mark_at_identifier, no_identifier_at_mark}
-use Rattle.c_grammar.proofs.TypesRead.{words-read, words-turns, word-passes, word-other, no-other, no_mark_at_word, none_too, modifier-specifier, qualifier-specifier, modifiers-words, modifiers-no_integer, some_named, pointers-read, pointers-turns, is_start, no_type_at_start, no_mark_at_start, type_at_word, type_at, no_word_at_single}
-use Rattle.c_grammar.proofs.AttributesRead.{attributes-read, attributes-turns}
-use Rattle.c_grammar.proofs.Sizes.{expression-turns, arguments-turns, list-turns, lengths-turns, type-turns, specified-turns, single-turns, constants-turns, constant-turns, expression-deep}
+use Rattle.c_grammar.proofs.Terminals.{NextIs, no_mark_at, nothing_behind_at, behind_at, no_open_behind, other_mark, behind-turns, is_open, open_at_start, no_open_at_start, no_identifier_at_mark}
+use Rattle.c_grammar.proofs.TypesRead.{words-read, word-passes, word-other, modifier-specifier, modifiers-words, modifiers-no_integer, some_named, is_start, no_type_at_start, no_mark_at_start, type_at_word, type_at, no_word_at_single}
 
 -- ---- what may stand behind an expression
 
@@ -73,23 +70,23 @@ follows-tighter level more from h f = record { opens = f.opens; operator = λ fo
 pub ends_at : (level : ℕ) (p : Punctuator) (from : Input) → NextIs p from.tokens
     → sameb punctuator.the_type marks.OpenParenthesis p ≡ false → operators.infix_mark p ≡ None → Ends level from
 ends_at level p from n opens none = record {
-    opens = no_mark_at p marks.OpenParenthesis from n opens;
-    operator = λ found is. absurd (none-some found (sym (nothing_behind_at p from n none) ∙ is));
-  }
+  opens = no_mark_at p marks.OpenParenthesis from n opens;
+  operator = λ found is. absurd (none-some found (sym (nothing_behind_at p from n none) ∙ is));
+}
 
 -- behind a comma
 pub ends_at_comma : (level : ℕ) (from : Input) → NextIs marks.Comma from.tokens → 0 < level → Ends level from
 ends_at_comma level from n h = record {
-    opens = no_mark_at marks.Comma marks.OpenParenthesis from n refl;
-    operator = λ found is. rw (behind_at marks.Comma operators.Comma from n refl found is) h;
-  }
+  opens = no_mark_at marks.Comma marks.OpenParenthesis from n refl;
+  operator = λ found is. rw (behind_at marks.Comma operators.Comma from n refl found is) h;
+}
 
 -- behind an operator, what stands before it
 pub follows_before : (from : Input) (found : TakenInfix) → behind from ≡ Some found → Follows (left_level found.operator) from
 follows_before from found is = record {
-    opens = no_open_behind from found is;
-    operator = λ other known. inr (rw (ap (λ (t : TakenInfix). left_level t.operator) (same_Some other found (sym known ∙ is))) (omega arith));
-  }
+  opens = no_open_behind from found is;
+  operator = λ other known. inr (rw (ap (λ (t : TakenInfix). left_level t.operator) (same_Some other found (sym known ∙ is))) (omega arith));
+}
 
 -- ---- the table of operators
 
@@ -324,17 +321,24 @@ module _ (limit : ℕ) where
   pub loosened : (room wanted : ℕ) (from : Input) (tree : Expr) (level : ℕ) (to : Input) → Climbs room wanted from tree (suc level) to
       → Climbs room wanted from tree level to
   loosened room wanted from tree level to c = record {
-      reached = c.reached; at_least = omega (arith, c.at_least); left = c.left; enough = c.enough; reads = c.reads;
-    }
+    reached = c.reached;
+    at_least = omega (arith, c.at_least);
+    left = c.left;
+    enough = c.enough;
+    reads = c.reads;
+  }
 
   pub begins_climb : (room wanted level : ℕ) (from : Input) (tree : Expr) (to : Input)
       → begun limit (nested limit room) from ≡ Some (record { tree = tree; level = level; rest = to }) → wanted ≤ level
       → Climbs room wanted from tree level to
   unfolding expression_with
   begins_climb room wanted level from tree to b h = record {
-      reached = level; at_least = omega arith; left = suc (turns to); enough = omega arith;
-      reads = rw (b, is_le h) refl;
-    }
+    reached = level;
+    at_least = omega arith;
+    left = suc (turns to);
+    enough = omega arith;
+    reads = rw (b, is_le h) refl;
+  }
 
   pub goes : (wanted : ℕ) (operator : operators.Infix) (level : ℕ) → wanted ≤ level_of operator → left_level operator ≤ level
       → goes_on wanted operator level ≡ true
@@ -351,16 +355,19 @@ module _ (limit : ℕ) where
   pub grows_from : (room wanted : ℕ) (from : Input) (tree grown_tree : Expr) (operator : operators.Infix) (before inner to : Input)
       (reached left : ℕ) → turns before < left → left_level operator ≤ reached
       → expression_with limit (nested limit room) wanted from
-        ≡ climb limit (nested limit room) wanted left (record { tree = tree; level = reached; rest = before })
+      ≡ climb limit (nested limit room) wanted left (record { tree = tree; level = reached; rest = before })
       → grammar.Continues before operator inner → wanted ≤ level_of operator
       → grown limit (nested limit room) operator tree inner ≡ Some (record { tree = grown_tree; level = level_of operator; rest = to })
       → turns to ≤ turns inner → Climbs room wanted from grown_tree (level_of operator) to
   grows_from room wanted from tree grown_tree operator before inner to reached zero enough tight e c h g t =
       absurd (omega (arith, enough))
   grows_from room wanted from tree grown_tree operator before inner to reached (suc left) enough tight e c h g t = record {
-      reached = level_of operator; at_least = omega arith; left = left; enough = omega (arith, enough, t, behind-turns before _ c);
-      reads = e ∙ climb_step room wanted left reached tree grown_tree operator before inner to c (goes wanted operator reached h tight) g;
-    }
+    reached = level_of operator;
+    at_least = omega arith;
+    left = left;
+    enough = omega (arith, enough, t, behind-turns before _ c);
+    reads = e ∙ climb_step room wanted left reached tree grown_tree operator before inner to c (goes wanted operator reached h tight) g;
+  }
 
   pub grows : (room wanted : ℕ) (from : Input) (tree grown_tree : Expr) (level : ℕ) (operator : operators.Infix) (before inner to : Input)
       → Climbs room wanted from tree level before → grammar.Continues before operator inner → wanted ≤ level_of operator
@@ -379,7 +386,7 @@ module _ (limit : ℕ) where
 
   pub climbed : (room wanted : ℕ) (from : Input) (tree : Expr) (to : Input) (reached left : ℕ) → turns to < left
       → expression_with limit (nested limit room) wanted from
-        ≡ climb limit (nested limit room) wanted left (record { tree = tree; level = reached; rest = to })
+      ≡ climb limit (nested limit room) wanted left (record { tree = tree; level = reached; rest = to })
       → Ends wanted to → expression_with limit (nested limit room) wanted from ≡ Some (tree, to)
   climbed room wanted from tree to reached zero enough e ends = absurd (omega (arith, enough))
   climbed room wanted from tree to reached (suc left) enough e ends =
@@ -569,15 +576,19 @@ module _ (expression : ℕ → Reader Expr) where
   lengths_are from lengths to l = l
 
   pub implicit_is : (from : Input) (named : Named) → identifier from ≡ Some named → mark marks.Assign named.rest ≡ None
-      → reading.constant expression from ≡ Some (roll-Enumerator (record { name = named.name; value = None }),
-        declares named.rest named.name.text names.Ordinary)
+      → reading.constant expression from ≡ Some (
+        roll-Enumerator (record { name = named.name; value = None }),
+        declares named.rest named.name.text names.Ordinary,
+      )
   unfolding reading.constant
   implicit_is from named n none = rw (n, none) refl
 
   pub valued_is : (from : Input) (named : Named) (inner : Input) (value : Expr) (rest : Input) → identifier from ≡ Some named
       → mark marks.Assign named.rest ≡ Some inner → expression 2 inner ≡ Some (value, rest)
-      → reading.constant expression from ≡ Some (roll-Enumerator (record { name = named.name; value = Some value }),
-        declares rest named.name.text names.Ordinary)
+      → reading.constant expression from ≡ Some (
+        roll-Enumerator (record { name = named.name; value = Some value }),
+        declares rest named.name.text names.Ordinary,
+      )
   unfolding reading.constant
   valued_is from named inner value rest n m e = rw (n, m, e) refl
 

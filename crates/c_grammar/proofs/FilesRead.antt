@@ -1,6 +1,5 @@
 -- Files that the grammar relates are what is read, where they are no deeper than the limit.
-use Rattle.std.proofs.Common.{◌≡◌, ℕ, zero, suc, ◌+◌, ◌≤◌, ◌<◌, max, Bool, true, false, List, [], ◌∷◌, map, length, Option, Some, None, sym, refl, ap, ◌∙◌, arith, rules}
-use Rattle.std.proofs.lemmas.Bool.{false≢true}
+use Rattle.std.proofs.Common.{◌≡◌, ℕ, zero, suc, ◌≤◌, ◌<◌, true, List, [], ◌∷◌, map, length, Option, Some, None, sym, refl, arith}
 use Rattle.std.proofs.lemmas.Option.{none-some}
 use Rattle.rc_text.specs.declared.place.Place.{Place}
 use Rattle.c_lexer.specs.TokenLists.{TokenLists}
@@ -21,19 +20,18 @@ use Rattle.c_syntax.specs.Depth.{specifier_depth, function_depth, initialized_de
 use Rattle.c_grammar.specs.declared.names.NameEntry.{NameEntry}
 use Rattle.c_grammar.specs.declared.names.NameKind.TheVariants as names
 use Rattle.c_grammar.specs.Input.{Input, Taken, first_of_tokens, next, mark, declares}
-use Rattle.c_grammar.specs.Attributes.{Attributes}
 use Rattle.c_grammar.specs.Declarations as declarations
 use Rattle.c_grammar.specs.Declarations.{Defining, FunctionDeclared, FunctionNames, declaration, behind_function}
 use Rattle.c_grammar.specs.Statements.{outermost, place_of, Children}
 use Rattle.c_grammar.specs.Grammar as grammar
 use Rattle.c_grammar.specs.Grammar.{Body, ItemKindRead, Items, Derives, bare_statement}
-use Rattle.c_grammar.specs.Reading.{turns, either}
+use Rattle.c_grammar.specs.Reading.{turns}
 use Rattle.c_grammar.specs.FileReading as files
 use Rattle.c_grammar.proofs.Steps.{is_le}
 use Rattle.c_grammar.proofs.Terminals.{next_is, no_mark_at, other_mark, mark-turns}
 use Rattle.c_grammar.proofs.AttributesRead.{attributes-read, attributes-turns}
 use Rattle.c_grammar.proofs.Complete.{is_true}
-use Rattle.c_grammar.proofs.DeclarationsRead.{whole, function-read, function-turns, function_ends, ends_at_mark}
+use Rattle.c_grammar.proofs.DeclarationsRead.{function-read, function-turns, function_ends, ends_at_mark}
 use Rattle.c_grammar.proofs.NamesRead.{typedef_names-read, typedef_names-turns, typedef_names-end, function_names-read, function_names-turns, function_names-end, function_names-no_semicolon, function-no_semicolon}
 use Rattle.c_grammar.proofs.RecordsRead.{defining-read, defining-turns, defining-deep, defining_first}
 use Rattle.c_grammar.proofs.StatementDepths.{depth-stated, depth-Compound}
@@ -71,8 +69,10 @@ module _ (limit : ℕ) where
       → place_of (declares inner tree.name.text names.Ordinary) ≡ Some place → Children outermost start children to
       → deepest (map statement_depth children) ≤ limit
       → files.defined limit specifier tree behind inner start
-      ≡ Some (items.Function (record { specifier = specifier; declarator = tree; body = bare_statement place (statements.Compound children) }),
-        behind_function behind tree to)
+      ≡ Some (
+        items.Function (record { specifier = specifier; declarator = tree; body = bare_statement place (statements.Compound children) }),
+        behind_function behind tree to,
+      )
   unfolding files.defined files.function_body
   defined-read behind specifier tree inner {start = start} n p c within = rw (n, p, children-read limit c limit (turns start) (omega arith) within within) refl
 
@@ -93,31 +93,60 @@ module _ (limit : ℕ) where
       → files.functions limit specifier behind ≡ Some (items.Declaration (declaration specifier (kinds.Names list)), to)
   unfolding files.functions files.functions_behind
   names_item-read {specifier = specifier} (declarations.FunctionNames.last {from = from} {tree = tree} {behind = inner} {to = to} f m) some within =
-      rw (function-read limit (specifier_depth specifier) f some (omega (arith, within)),
+      rw (
+        function-read limit (specifier_depth specifier) f some (omega (arith, within)),
         no_mark_at marks.Semicolon marks.OpenBrace (declares inner tree.name.text names.Ordinary) (next_is _ (behind_function from tree inner) to m) refl,
-        other_mark _ marks.Comma (behind_function from tree inner) to m refl, m) refl
+        other_mark _ marks.Comma (behind_function from tree inner) to m refl,
+        m,
+      ) refl
   names_item-read {specifier = specifier} (declarations.FunctionNames.more {from = from} {tree = tree} {behind = inner} {inner = after} f m others) some within =
-      rw (function-read limit (specifier_depth specifier) f some (omega (arith, within)),
-        no_mark_at marks.Comma marks.OpenBrace (declares inner tree.name.text names.Ordinary) (next_is _ (behind_function from tree inner) after m) refl, m,
-        function_names-read limit (specifier_depth specifier) others (turns after) (omega arith) some (omega (arith, within))) refl
+      rw (
+        function-read limit (specifier_depth specifier) f some (omega (arith, within)),
+        no_mark_at marks.Comma marks.OpenBrace (declares inner tree.name.text names.Ordinary) (next_is _ (behind_function from tree inner) after m) refl,
+        m,
+        function_names-read limit (specifier_depth specifier) others (turns after) (omega arith) some (omega (arith, within)),
+      ) refl
 
   item-read : {from : Input} {kind : ItemKind} {to : Input} → ItemKindRead from kind to → item_depth kind ≤ limit
       → files.item limit from ≡ Some (kind, to)
   unfolding files.item files.any_item files.item_behind
   item-read (grammar.ItemKindRead.function {specifier = type} d a t f n b) within =
       let some = defining-deep d in
-      rw (defining-read limit d limit (omega (arith, within)) (omega (arith, within)) (function_ends f), is_true a, t, function-no_semicolon f,
-        function_item-read {specifier = type} f (is_true n) b (omega (arith, some, within)) (omega (arith, within)) (omega (arith, within)), is_le within) refl
+      rw (
+        defining-read limit d limit (omega (arith, within)) (omega (arith, within)) (function_ends f),
+        is_true a,
+        t,
+        function-no_semicolon f,
+        function_item-read {specifier = type} f (is_true n) b (omega (arith, some, within)) (omega (arith, within)) (omega (arith, within)),
+        is_le within,
+      ) refl
   item-read (grammar.ItemKindRead.declaration (declarations.FileDeclaration.tag {behind = behind} {to = to} d a t g m)) within =
-      rw (defining-read limit d limit (omega (arith, within)) (omega (arith, within)) (ends_at_mark marks.Semicolon behind (next_is _ behind to m) refl),
-        is_true a, t, m, is_true g, is_le within) refl
+      rw (
+        defining-read limit d limit (omega (arith, within)) (omega (arith, within)) (ends_at_mark marks.Semicolon behind (next_is _ behind to m) refl),
+        is_true a,
+        t,
+        m,
+        is_true g,
+        is_le within,
+      ) refl
   item-read (grammar.ItemKindRead.declaration (declarations.FileDeclaration.typedefs {specifier = type} {behind = behind} d a t n)) within =
-      rw (defining-read limit d limit (omega (arith, within)) (omega (arith, within)) (typedef_names-end n), is_true a, t,
-        typedef_names-read limit (specifier_depth type) n (turns behind) (omega arith) (omega (arith, within)), is_le within) refl
+      rw (
+        defining-read limit d limit (omega (arith, within)) (omega (arith, within)) (typedef_names-end n),
+        is_true a,
+        t,
+        typedef_names-read limit (specifier_depth type) n (turns behind) (omega arith) (omega (arith, within)),
+        is_le within,
+      ) refl
   item-read (grammar.ItemKindRead.declaration (declarations.FileDeclaration.functions {specifier = type} d a t n)) within =
       let some = defining-deep d in
-      rw (defining-read limit d limit (omega (arith, within)) (omega (arith, within)) (function_names-end n), is_true a, t, function_names-no_semicolon n,
-        names_item-read {specifier = type} n (omega (arith, some, within)) (omega (arith, within)), is_le within) refl
+      rw (
+        defining-read limit d limit (omega (arith, within)) (omega (arith, within)) (function_names-end n),
+        is_true a,
+        t,
+        function_names-no_semicolon n,
+        names_item-read {specifier = type} n (omega (arith, some, within)) (omega (arith, within)),
+        is_le within,
+      ) refl
 
   items-read : {from : Input} {list : List Item} → Items from list → (left : ℕ) → turns from < left
       → deepest (map (λ item. item_depth item.kind) list) ≤ limit → files.items_from limit left from ≡ Some list
@@ -127,8 +156,13 @@ module _ (limit : ℕ) where
   items-read (grammar.Items.more a p k others) zero h within = absurd (omega (arith, h))
   items-read (grammar.Items.more {from = from} a p k others) (suc left) h within =
       let some = some_next from (next from) refl (omega (arith, attributes-turns a, item-turns k)) in
-      rw (some.1, attributes-read a (item_first k), p, item-read k (omega (arith, within)),
-        items-read others left (omega (arith, h, attributes-turns a, item-turns k)) (omega (arith, within))) refl
+      rw (
+        some.1,
+        attributes-read a (item_first k),
+        p,
+        item-read k (omega (arith, within)),
+        items-read others left (omega (arith, h, attributes-turns a, item-turns k)) (omega (arith, within)),
+      ) refl
 
   -- every file of the grammar is read, where it is no deeper than the limit
   pub unit-read : (file : TokenLists) (tree : unit.Unit) → Derives file tree → unit_depth tree ≤ limit → files.unit_of limit file ≡ Some tree

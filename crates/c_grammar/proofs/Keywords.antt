@@ -1,9 +1,8 @@
 -- What the next token is where it is a keyword, and that something is left behind.
 use denote.Enum.Bare.{sameb, same_true}
-use Rattle.std.proofs.Common.{◌≡◌, ℕ, suc, ◌≤◌, ◌<◌, Bool, true, false, List, [], ◌∷◌, Option, Some, None, option_and_then, sym, refl, ap, ◌∙◌, arith}
+use Rattle.std.proofs.Common.{◌≡◌, ℕ, suc, Bool, true, false, List, Some, None, sym, refl, ap, ◌∙◌}
 use Rattle.std.proofs.lemmas.Bool.{false≢true}
 use Rattle.std.proofs.lemmas.Option.{none-some, same_Some}
-use Rattle.rc_text.specs.declared.place.Place.{Place}
 use Rattle.c_lexer.specs.declared.token.TokenKind.{TokenKind}
 use Rattle.c_lexer.specs.declared.token.TokenKind.TheVariants as kinds
 use Rattle.c_lexer.specs.declared.punctuator.Punctuator.{Punctuator}
@@ -13,11 +12,11 @@ use Rattle.c_grammar.specs.Names.{Word, word_of}
 use Rattle.c_grammar.specs.Marks.{is_keyword}
 use Rattle.c_grammar.specs.Input.{Input, Taken, next, taken_if, mark}
 use Rattle.c_grammar.specs.Operators.{Started, start, start_by}
-use Rattle.c_grammar.specs.Specifiers.{type_keyword, type_start, TypeStarted, type_by}
-use Rattle.c_grammar.specs.Statements.{keyword, place_of}
+use Rattle.c_grammar.specs.Specifiers.{type_keyword, type_start}
+use Rattle.c_grammar.specs.Statements.{keyword}
 use Rattle.c_grammar.specs.Reading.{turns, begins_type, is_type}
 use Rattle.c_grammar.proofs.Steps.{into}
-use Rattle.c_grammar.proofs.Terminals.{next-turns, marked, begins, begins_as_type}
+use Rattle.c_grammar.proofs.Terminals.{next-turns, marked, begins}
 use Rattle.c_grammar.proofs.TypesRead.{is_start, none_too}
 
 is_keyword-kind : (word : Keyword) (kind : TokenKind) → is_keyword word kind ≡ true → kind ≡ kinds.Keyword word
@@ -74,7 +73,7 @@ no_keyword_at_start w from started e known other = none_too (keyword w from) λ 
     let same = same_Some b.taken n.taken (sym b.next ∙ n.next) in
     let kind : b.taken.token.kind ≡ kinds.Keyword w = ap (λ (t : Taken). t.token.kind) same ∙ n.kind in
     let begin : start_by (kinds.Keyword w) (word_of from.names b.taken.token) b.taken.token.text ≡ started.start =
-      ap (λ k. start_by k (word_of from.names b.taken.token) b.taken.token.text) (sym kind) ∙ b.start in
+    ap (λ k. start_by k (word_of from.names b.taken.token) b.taken.token.text) (sym kind) ∙ b.start in
     false≢true (sym (other (word_of from.names b.taken.token) b.taken.token.text) ∙ ap is_start begin ∙ known)
 
 -- a keyword that begins no type stands where none begins

@@ -1,46 +1,29 @@
 -- The names of declarations, and structs and unions with their members: what is related is read.
 use denote.Enum.Bare.{sameb}
-use Rattle.std.proofs.Common.{◌≡◌, ℕ, zero, suc, ◌+◌, ◌≤◌, ◌<◌, max, Bool, true, false, List, [], ◌∷◌, ◌++◌, map, Option, Some, None, sym, refl, ap, ◌∙◌, arith, rules}
-use Rattle.std.specs.Prelude.{IsTrue}
-use Rattle.std.specs.List.{list_all}
+use Rattle.std.proofs.Common.{◌≡◌, ℕ, zero, suc, ◌+◌, ◌≤◌, ◌<◌, Bool, true, false, List, map, Some, None, refl, arith}
 use Rattle.std.proofs.lemmas.Bool.{false≢true}
-use Rattle.std.proofs.lemmas.Option.{none-some}
-use Rattle.c_lexer.specs.declared.keyword.Keyword.{Keyword}
 use Rattle.c_lexer.specs.declared.punctuator.Punctuator.{Punctuator}
 use Rattle.c_lexer.specs.declared.punctuator.Punctuator.TheVariants as marks
 use Rattle.c_lexer.specs.contracts.punctuator.Punctuator as punctuator
-use Rattle.c_syntax.specs.declared.attribute.Attribute.{Attribute}
 use Rattle.c_syntax.specs.declared.name.Name.{Name}
 use Rattle.c_syntax.specs.declared.declaration.Declaration.{Declaration}
 use Rattle.c_syntax.specs.declared.declaration.InitDeclarator.{InitDeclarator}
-use Rattle.c_syntax.specs.declared.declaration.InitDeclarator.TheVariants as declarators
 use Rattle.c_syntax.specs.declared.declarator.Declarator.{Declarator}
 use Rattle.c_syntax.specs.declared.declarator.FunctionDeclarator.{FunctionDeclarator}
-use Rattle.c_syntax.specs.declared.specifier.MemberDeclaration.{MemberDeclaration}
-use Rattle.c_syntax.specs.declared.specifier.RecordDefinition.{RecordDefinition}
-use Rattle.c_syntax.specs.declared.specifier.RecordKind.{RecordKind}
-use Rattle.c_syntax.specs.declared.specifier.RecordKind.TheVariants as records
-use Rattle.c_syntax.specs.declared.specifier.TypeSpecifier.{TypeSpecifier}
-use Rattle.c_syntax.specs.declared.specifier.TypeSpecifier.TheVariants as specifiers
 use Rattle.c_syntax.specs.declared.expr.Expr.{Expr}
-use Rattle.c_syntax.specs.declared.expr.ExprKind.{the_lemmas}
-use Rattle.c_syntax.specs.Depth.{expression_depth, specifier_depth, deepest, array_depth, declared_depth, function_depth, initialized_depth, names_depth, declaration_depth}
+use Rattle.c_syntax.specs.Depth.{specifier_depth, deepest, declared_depth, initialized_depth, declaration_depth}
 use Rattle.c_grammar.specs.declared.names.NameKind.TheVariants as names
-use Rattle.c_grammar.specs.Input.{Input, Named, mark, identifier, declares}
-use Rattle.c_grammar.specs.Attributes.{Attributes}
+use Rattle.c_grammar.specs.Input.{Input, mark, declares}
 use Rattle.c_grammar.specs.Specifiers as types
 use Rattle.c_grammar.specs.Specifiers.{TypeStart, type_start, word, is_specifier_word, is_modifier, is_qualifier, Words}
 use Rattle.c_grammar.specs.Expressions as expressions
 use Rattle.c_grammar.specs.Expressions.{Expression, Lengths, Specified, SingleType, BeginsType}
 use Rattle.c_grammar.specs.Declarations as grammar
 use Rattle.c_grammar.specs.Declarations.{declarator, Declared, FunctionDeclared, TypedefNames, Initialized, InitializedNames, FunctionNames, MemberNames, LocalDeclaration, behind_function, is_local, is_typedef, agrees, declares_tag}
-use Rattle.c_grammar.specs.Reading as reading
-use Rattle.c_grammar.specs.Reading.{Reader, turns, nested}
+use Rattle.c_grammar.specs.Reading.{turns}
 use Rattle.c_grammar.specs.DeclarationReading as declarations
-use Rattle.c_grammar.proofs.Terminals.{NextIs, next_is, no_mark_at, no_word_at, other_mark, mark-turns, identifier-turns, no_mark_at_identifier}
-use Rattle.c_grammar.proofs.AttributesRead.{attributes-read, attributes-turns}
-use Rattle.c_grammar.proofs.TypesRead.{words-turns, no_mark_at_word}
-use Rattle.c_grammar.proofs.Sizes.{expression-turns, lengths-turns, specified-turns}
+use Rattle.c_grammar.proofs.Terminals.{NextIs, next_is, no_mark_at, other_mark, mark-turns, no_mark_at_identifier}
+use Rattle.c_grammar.proofs.Sizes.{expression-turns, specified-turns}
 use Rattle.c_grammar.proofs.ExpressionsRead.{Ends, EndsType, ends_at, ends_at_comma}
 use Rattle.c_grammar.proofs.Complete.{is_true, array-within}
 use Rattle.c_grammar.proofs.DeclarationsRead.{depth-declarator, declared-turns, function-turns, declared_ends, function_ends, pointers_named, whole, lengths-whole, specified-whole, expression-whole, declared-read, function-read, ends_at_mark, parameters-read}
@@ -168,13 +151,19 @@ module _ (limit : ℕ) where
   typedef_names-read specified (grammar.TypedefNames.last d m) zero h within = absurd (omega (arith, h, declared-turns d))
   typedef_names-read specified (grammar.TypedefNames.last {name = name} {behind = behind} {to = to} d m) (suc left) h within =
       let after = declares behind name.text names.Typedef in
-      rw (declared-read limit specified marks.Semicolon d (omega (arith, within)) (next_is _ after to m) refl,
-        other_mark _ marks.Comma after to m refl, m) refl
+      rw (
+        declared-read limit specified marks.Semicolon d (omega (arith, within)) (next_is _ after to m) refl,
+        other_mark _ marks.Comma after to m refl,
+        m,
+      ) refl
   typedef_names-read specified (grammar.TypedefNames.more d m others) zero h within = absurd (omega (arith, h, declared-turns d))
   typedef_names-read specified (grammar.TypedefNames.more {name = name} {behind = behind} {inner = inner} d m others) (suc left) h within =
       let after = declares behind name.text names.Typedef in
-      rw (declared-read limit specified marks.Comma d (omega (arith, within)) (next_is _ after inner m) refl, m,
-        typedef_names-read specified others left (omega (arith, h, declared-turns d, mark-turns _ after inner m)) (omega (arith, within))) refl
+      rw (
+        declared-read limit specified marks.Comma d (omega (arith, within)) (next_is _ after inner m) refl,
+        m,
+        typedef_names-read specified others left (omega (arith, h, declared-turns d, mark-turns _ after inner m)) (omega (arith, within)),
+      ) refl
 
   pub member_names-read : {from : Input} {list : List Declarator} {to : Input} (specified : ℕ) → MemberNames from list to → (left : ℕ)
       → turns from ≤ left → deepest (map (declared_depth specified) list) ≤ limit
@@ -182,12 +171,18 @@ module _ (limit : ℕ) where
   unfolding declarations.member_names_from
   member_names-read specified (grammar.MemberNames.last d m) zero h within = absurd (omega (arith, h, declared-turns d))
   member_names-read specified (grammar.MemberNames.last {behind = behind} {to = to} d m) (suc left) h within =
-      rw (declared-read limit specified marks.Semicolon d (omega (arith, within)) (next_is _ behind to m) refl,
-        other_mark _ marks.Comma behind to m refl, m) refl
+      rw (
+        declared-read limit specified marks.Semicolon d (omega (arith, within)) (next_is _ behind to m) refl,
+        other_mark _ marks.Comma behind to m refl,
+        m,
+      ) refl
   member_names-read specified (grammar.MemberNames.more d m others) zero h within = absurd (omega (arith, h, declared-turns d))
   member_names-read specified (grammar.MemberNames.more {behind = behind} {inner = inner} d m others) (suc left) h within =
-      rw (declared-read limit specified marks.Comma d (omega (arith, within)) (next_is _ behind inner m) refl, m,
-        member_names-read specified others left (omega (arith, h, declared-turns d, mark-turns _ behind inner m)) (omega (arith, within))) refl
+      rw (
+        declared-read limit specified marks.Comma d (omega (arith, within)) (next_is _ behind inner m) refl,
+        m,
+        member_names-read specified others left (omega (arith, h, declared-turns d, mark-turns _ behind inner m)) (omega (arith, within)),
+      ) refl
 
   initialized-read : {from : Input} {one : InitDeclarator} {to : Input} (specified : ℕ) (p : Punctuator) → Initialized from one to → 1 ≤ limit
       → initialized_depth specified one ≤ limit → NextIs p to.tokens → ends_name p ≡ true
@@ -196,14 +191,25 @@ module _ (limit : ℕ) where
   initialized-read specified p (grammar.Initialized.object (grammar.Declared.declared {pointers = count} {named = named} {lengths = lengths} {to = to} q i l)) some within n ends =
       let apart = not_open p ends in
       let inside = array-within lengths (count + specified) limit (omega (arith, depth-declarator specified count named.name lengths, within)) in
-      rw (pointers_named named q i, i, lengths_open l p n apart.0, lengths-whole limit l inside.0 (no_mark_at p marks.OpenBracket to n apart.1),
-        no_mark_at p marks.Assign (declares to named.name.text names.Ordinary) n apart.2) refl
+      rw (
+        pointers_named named q i,
+        i,
+        lengths_open l p n apart.0,
+        lengths-whole limit l inside.0 (no_mark_at p marks.OpenBracket to n apart.1),
+        no_mark_at p marks.Assign (declares to named.name.text names.Ordinary) n apart.2,
+      ) refl
   initialized-read specified p (grammar.Initialized.initialized {inner = inner} {to = to} (grammar.Declared.declared {pointers = count} {named = named} {lengths = lengths} {to = rest} q i l) m e) some within n ends =
       let after = declares rest named.name.text names.Ordinary in
       let next = next_is marks.Assign after inner m in
       let inside = array-within lengths (count + specified) limit (omega (arith, depth-declarator specified count named.name lengths, within)) in
-      rw (pointers_named named q i, i, lengths_open l marks.Assign next refl, lengths-whole limit l inside.0 (no_mark_at marks.Assign marks.OpenBracket rest next refl),
-        m, expression-whole limit 1 e (omega (arith, within)) (name_ends p to n ends)) refl
+      rw (
+        pointers_named named q i,
+        i,
+        lengths_open l marks.Assign next refl,
+        lengths-whole limit l inside.0 (no_mark_at marks.Assign marks.OpenBracket rest next refl),
+        m,
+        expression-whole limit 1 e (omega (arith, within)) (name_ends p to n ends),
+      ) refl
   initialized-read specified p (grammar.Initialized.function (grammar.FunctionDeclared.function_declarator {named = named} q i o l)) some within n ends =
       rw (pointers_named named q i, i, o, parameters-read limit l some (omega (arith, within))) refl
 
@@ -213,12 +219,18 @@ module _ (limit : ℕ) where
   unfolding declarations.initialized_names_from
   initialized_names-read specified (grammar.InitializedNames.last d m) zero h some within = absurd (omega (arith, h, initialized-turns d))
   initialized_names-read specified (grammar.InitializedNames.last {behind = behind} {to = to} d m) (suc left) h some within =
-      rw (initialized-read specified marks.Semicolon d some (omega (arith, within)) (next_is _ behind to m) refl,
-        other_mark _ marks.Comma behind to m refl, m) refl
+      rw (
+        initialized-read specified marks.Semicolon d some (omega (arith, within)) (next_is _ behind to m) refl,
+        other_mark _ marks.Comma behind to m refl,
+        m,
+      ) refl
   initialized_names-read specified (grammar.InitializedNames.more d m others) zero h some within = absurd (omega (arith, h, initialized-turns d))
   initialized_names-read specified (grammar.InitializedNames.more {behind = behind} {inner = inner} d m others) (suc left) h some within =
-      rw (initialized-read specified marks.Comma d some (omega (arith, within)) (next_is _ behind inner m) refl, m,
-        initialized_names-read specified others left (omega (arith, h, initialized-turns d, mark-turns _ behind inner m)) some (omega (arith, within))) refl
+      rw (
+        initialized-read specified marks.Comma d some (omega (arith, within)) (next_is _ behind inner m) refl,
+        m,
+        initialized_names-read specified others left (omega (arith, h, initialized-turns d, mark-turns _ behind inner m)) some (omega (arith, within)),
+      ) refl
 
   pub function_names-read : {from : Input} {list : List InitDeclarator} {to : Input} (specified : ℕ) → FunctionNames from list to → (left : ℕ)
       → turns from ≤ left → 1 ≤ limit → deepest (map (initialized_depth specified) list) ≤ limit
@@ -229,8 +241,11 @@ module _ (limit : ℕ) where
       rw (function-read limit specified d some (omega (arith, within)), other_mark _ marks.Comma (behind_function from tree behind) to m refl, m) refl
   function_names-read specified (grammar.FunctionNames.more d m others) zero h some within = absurd (omega (arith, h, function-turns d))
   function_names-read specified (grammar.FunctionNames.more {from = from} {tree = tree} {behind = behind} {inner = inner} d m others) (suc left) h some within =
-      rw (function-read limit specified d some (omega (arith, within)), m,
-        function_names-read specified others left (omega (arith, h, function-turns d, mark-turns _ (behind_function from tree behind) inner m)) some (omega (arith, within))) refl
+      rw (
+        function-read limit specified d some (omega (arith, within)),
+        m,
+        function_names-read specified others left (omega (arith, h, function-turns d, mark-turns _ (behind_function from tree behind) inner m)) some (omega (arith, within)),
+      ) refl
 
   pub local-read : {from : Input} {tree : Declaration} {to : Input} → LocalDeclaration from tree to → 1 ≤ limit → declaration_depth tree ≤ limit
       → declarations.local_declaration (whole limit) from ≡ Some (tree, to)
@@ -238,8 +253,18 @@ module _ (limit : ℕ) where
   local-read (grammar.LocalDeclaration.tag {behind = behind} {to = to} s l t d m) some within =
       rw (specified-whole limit s (omega (arith, within)) (ends_at_mark marks.Semicolon behind (next_is _ behind to m) refl), is_true l, t, m, is_true d) refl
   local-read (grammar.LocalDeclaration.typedefs {specifier = type} {behind = behind} s l a t d) some within =
-      rw (specified-whole limit s (omega (arith, within)) (typedef_names-end d), is_true l, t, is_true a,
-        typedef_names-read (specifier_depth type) d (turns behind) (omega arith) (omega (arith, within))) refl
+      rw (
+        specified-whole limit s (omega (arith, within)) (typedef_names-end d),
+        is_true l,
+        t,
+        is_true a,
+        typedef_names-read (specifier_depth type) d (turns behind) (omega arith) (omega (arith, within)),
+      ) refl
   local-read (grammar.LocalDeclaration.declared_names {specifier = type} {behind = behind} s l t d) some within =
-      rw (specified-whole limit s (omega (arith, within)) (initialized_names-end d), is_true l, t, initialized_names-no_semicolon d,
-        initialized_names-read (specifier_depth type) d (turns behind) (omega arith) some (omega (arith, within))) refl
+      rw (
+        specified-whole limit s (omega (arith, within)) (initialized_names-end d),
+        is_true l,
+        t,
+        initialized_names-no_semicolon d,
+        initialized_names-read (specifier_depth type) d (turns behind) (omega arith) some (omega (arith, within)),
+      ) refl

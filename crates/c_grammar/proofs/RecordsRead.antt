@@ -1,9 +1,7 @@
 -- Structs and unions with their members: what is related is read.
 use denote.Enum.Bare.{sameb}
-use Rattle.std.proofs.Common.{◌≡◌, ℕ, zero, suc, ◌+◌, ◌≤◌, ◌<◌, max, Bool, true, false, List, [], ◌∷◌, ◌++◌, map, Option, Some, None, option_and_then, sym, refl, ap, ◌∙◌, arith, rules}
-use Rattle.std.specs.Prelude.{IsTrue}
-use Rattle.std.specs.List.{list_all, filter}
-use Rattle.std.proofs.lemmas.Bool.{false≢true}
+use Rattle.std.proofs.Common.{◌≡◌, ℕ, zero, suc, ◌+◌, ◌≤◌, ◌<◌, max, Bool, true, false, List, [], ◌∷◌, ◌++◌, map, Some, None, sym, refl, ap, ◌∙◌, arith, rules}
+use Rattle.std.specs.List.{list_all}
 use Rattle.std.proofs.lemmas.Option.{none-some}
 use Rattle.c_lexer.specs.declared.keyword.Keyword.{Keyword}
 use Rattle.c_lexer.specs.declared.punctuator.Punctuator.{Punctuator}
@@ -20,7 +18,7 @@ use Rattle.c_syntax.specs.declared.specifier.TypeSpecifier.{TypeSpecifier}
 use Rattle.c_syntax.specs.declared.specifier.TypeSpecifier.TheVariants as specifiers
 use Rattle.c_syntax.specs.declared.expr.Expr.{Expr}
 use Rattle.c_syntax.specs.declared.expr.ExprKind.{the_lemmas}
-use Rattle.c_syntax.specs.Depth.{expression_depth, specifier_depth, deepest, declared_depth}
+use Rattle.c_syntax.specs.Depth.{specifier_depth, deepest, declared_depth}
 use Rattle.c_grammar.specs.Depths.{declarator_depth, member_depth}
 use Rattle.c_grammar.specs.Input.{Input, Named, mark, identifier}
 use Rattle.c_grammar.specs.Attributes as attributes
@@ -32,7 +30,6 @@ use Rattle.c_grammar.specs.Expressions as expressions
 use Rattle.c_grammar.specs.Expressions.{Specified, SingleType, BeginsType}
 use Rattle.c_grammar.specs.Declarations as grammar
 use Rattle.c_grammar.specs.Declarations.{definition, member_declaration, record_start, Defining, RecordDefined, Members, MemberDeclared, MemberNames, declares_tag}
-use Rattle.c_grammar.specs.Reading as reading
 use Rattle.c_grammar.specs.Reading.{Reader, turns, is_type}
 use Rattle.c_grammar.specs.DeclarationReading as declarations
 use Rattle.c_grammar.proofs.Terminals.{next_is, other_mark, mark-turns, identifier-turns, no_mark_at_identifier, no_mark_at_type, type_start-turns}
@@ -110,13 +107,15 @@ pub record EndsAttributes (from : Input) : Type 0 where
 
 at_word : (test : Keyword → Bool) {from : Input} {found : types.TakenWord} → word test from ≡ Some found → EndsAttributes from
 at_word test {from} {found} w = record {
-    bracket = no_mark_at_word marks.OpenBracket test from found w; brace = no_mark_at_word marks.CloseBrace test from found w;
-  }
+  bracket = no_mark_at_word marks.OpenBracket test from found w;
+  brace = no_mark_at_word marks.CloseBrace test from found w;
+}
 
 at_type : {from : Input} {begin : TypeStart} {rest : Input} (known_begin : Unit {0}) → BeginsType from begin rest → is_type begin ≡ true → EndsAttributes from
 at_type {from = from} _ b known = record {
-    bracket = no_mark_at_type marks.OpenBracket from _ b known; brace = no_mark_at_type marks.CloseBrace from _ b known;
-  }
+  bracket = no_mark_at_type marks.OpenBracket from _ b known;
+  brace = no_mark_at_type marks.CloseBrace from _ b known;
+}
 
 single_first : {from : Input} {type : TypeSpecifier} {to : Input} → SingleType from type to → EndsAttributes from
 single_first (expressions.SingleType.void s) = at_type tt s refl
@@ -191,13 +190,13 @@ module _ (limit : ℕ) (member_type : Reader (List Keyword × TypeSpecifier)) wh
       defining_start from _ outer s ∙ tag-read records.Union tag a n ends
   plain-read (expressions.SingleType.enum {from = from} {outer = outer} s a n) within ends =
       defining_start from _ outer s ∙ (sym (read.single_start (whole limit) from _ outer s)
-        ∙ single-read limit (expressions.SingleType.enum s a n) limit (omega (arith, within)) within ends)
+      ∙ single-read limit (expressions.SingleType.enum s a n) limit (omega (arith, within)) within ends)
   plain-read (expressions.SingleType.enumeration {from = from} {outer = outer} s a n o e) within ends =
       defining_start from _ outer s ∙ (sym (read.single_start (whole limit) from _ outer s)
-        ∙ single-read limit (expressions.SingleType.enumeration s a n o e) limit (omega (arith, within)) within ends)
+      ∙ single-read limit (expressions.SingleType.enumeration s a n o e) limit (omega (arith, within)) within ends)
   plain-read (expressions.SingleType.untagged_enumeration {from = from} {outer = outer} s a o e) within ends =
       defining_start from _ outer s ∙ (sym (read.single_start (whole limit) from _ outer s)
-        ∙ single-read limit (expressions.SingleType.untagged_enumeration s a o e) limit (omega (arith, within)) within ends)
+      ∙ single-read limit (expressions.SingleType.untagged_enumeration s a o e) limit (omega (arith, within)) within ends)
 
   around : {from : Input} {before : List Keyword} {inner : Input} (type : TypeSpecifier) {rest : Input} {after : List Keyword} {to : Input}
       → Words is_modifier from before inner → word is_specifier_word inner ≡ None
@@ -205,8 +204,12 @@ module _ (limit : ℕ) (member_type : Reader (List Keyword × TypeSpecifier)) wh
       → declarations.defining_with (whole limit) member_type from ≡ Some ((before ++ after, type), to)
   unfolding declarations.defining_with declarations.specified_with
   around type {to = to} a none e b ends =
-      rw (words-read (modifiers-words a) none, modifiers-no_integer a, e,
-        words-read b (no-other is_modifier is_specifier_word to modifier-specifier ends.words)) refl
+      rw (
+        words-read (modifiers-words a) none,
+        modifiers-no_integer a,
+        e,
+        words-read b (no-other is_modifier is_specifier_word to modifier-specifier ends.words),
+      ) refl
 
   specified-defining : {from : Input} {words : List Keyword} {type : TypeSpecifier} {to : Input} → Specified from words type to
       → specifier_depth type ≤ limit → EndsType to → declarations.defining_with (whole limit) member_type from ≡ Some ((words, type), to)
@@ -251,8 +254,13 @@ module _ (limit : ℕ) (member_type : Reader (List Keyword × TypeSpecifier)) wh
       → declarations.member (whole limit) member_type from ≡ Some (member_declaration list type names, to)
   unfolding declarations.member declarations.members_behind
   members-are {type = type} {behind = behind} a none e q n within =
-      rw (attributes-read a none, e, q, member_names-no_semicolon n,
-        member_names-read limit (specifier_depth type) n (turns behind) (omega arith) within) refl
+      rw (
+        attributes-read a none,
+        e,
+        q,
+        member_names-no_semicolon n,
+        member_names-read limit (specifier_depth type) n (turns behind) (omega arith) within,
+      ) refl
 
   no_members-are : {from : Input} {list : List Attribute} {inner : Input} {words : List Keyword} {type : TypeSpecifier} {behind to : Input}
       → Attributes from list inner → mark marks.OpenBracket inner ≡ None
@@ -285,8 +293,8 @@ module _ (limit : ℕ) where
         let d = depth-definition kind list tag.name members in
         defining_start limit (declarations.defining (whole limit) room) from _ outer b
         ∙ (record_start-read limit (declarations.defining (whole limit) room) kind outer
-          ∙ definition-read limit (declarations.defining (whole limit) room) kind a i o
-          (members-read m room (turns inner) (omega arith) (omega (arith, d, deep)) (omega (arith, d, within))))
+        ∙ definition-read limit (declarations.defining (whole limit) room) kind a i o
+        (members-read m room (turns inner) (omega arith) (omega (arith, d, deep)) (omega (arith, d, within))))
 
     members-read : {from : Input} {list : List MemberDeclaration} {to : Input} → Members from list to → (room left : ℕ) → turns from ≤ left
         → deepest (map member_depth list) ≤ room → deepest (map member_depth list) ≤ limit

@@ -1,11 +1,11 @@
 -- Each expression and type takes at least one token, and is at least one node.
-use Rattle.std.proofs.Common.{◌≡◌, ℕ, zero, suc, ◌+◌, ◌≤◌, ◌<◌, max, List, [], ◌∷◌, Some, sym, ◌∙◌, arith}
+use Rattle.std.proofs.Common.{◌≡◌, ℕ, ◌+◌, ◌≤◌, ◌<◌, List, arith}
 use Rattle.c_lexer.specs.declared.keyword.Keyword.{Keyword}
 use Rattle.c_syntax.specs.declared.specifier.TypeSpecifier.{TypeSpecifier}
 use Rattle.c_syntax.specs.declared.specifier.Enumerator.{Enumerator}
 use Rattle.c_syntax.specs.declared.expr.Expr.{Expr}
 use Rattle.c_syntax.specs.declared.expr.TypeName.{TypeName}
-use Rattle.c_syntax.specs.Depth.{expression_depth, specifier_depth}
+use Rattle.c_syntax.specs.Depth.{expression_depth}
 use Rattle.c_grammar.specs.Input.{Input}
 use Rattle.c_grammar.specs.Expressions as grammar
 use Rattle.c_grammar.specs.Expressions.{Expression, Arguments, ArgumentList, Lengths, TypeNamed, Specified, SingleType, Enumerators, Constant}

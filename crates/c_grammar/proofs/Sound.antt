@@ -1,6 +1,6 @@
 -- What is read of expressions and types is related by the grammar, and no expression is deeper than the limit.
-use Rattle.std.proofs.Common.{◌≡◌, ℕ, zero, suc, ◌+◌, ◌≤◌, ◌<◌, ◌-◌, ◌&&◌, Bool, true, false, List, [], ◌∷◌, ◌++◌, Option, Some, None, sym, refl, ap, ◌∙◌, subst, arith, rules}
-use Rattle.std.specs.Prelude.{IsTrue, nat_le}
+use Rattle.std.proofs.Common.{◌≡◌, ℕ, zero, suc, ◌+◌, ◌≤◌, ◌-◌, ◌&&◌, Bool, true, false, List, [], ◌∷◌, ◌++◌, Option, Some, None, sym, refl, ap, subst, arith}
+use Rattle.std.specs.Prelude.{nat_le}
 use Rattle.std.specs.List.{list_all, list_any, filter}
 use Rattle.std.proofs.lemmas.Bool.{false≢true}
 use Rattle.std.proofs.lemmas.Option.{none-some, same_Some, some_pair_parts}
@@ -13,7 +13,7 @@ use Rattle.c_syntax.specs.declared.specifier.RecordKind.{RecordKind}
 use Rattle.c_syntax.specs.declared.specifier.RecordKind.TheVariants as records
 use Rattle.c_syntax.specs.declared.specifier.TypeSpecifier.{TypeSpecifier}
 use Rattle.c_syntax.specs.declared.specifier.TypeSpecifier.TheVariants as specifiers
-use Rattle.c_syntax.specs.declared.specifier.EnumDefinition.{EnumDefinition, roll-EnumDefinition}
+use Rattle.c_syntax.specs.declared.specifier.EnumDefinition.{roll-EnumDefinition}
 use Rattle.c_syntax.specs.declared.specifier.Enumerator.{Enumerator, roll-Enumerator}
 use Rattle.c_syntax.specs.declared.expr.Expr.{Expr}
 use Rattle.c_syntax.specs.declared.expr.ExprKind.{ExprKind}
@@ -62,10 +62,10 @@ module _ (limit : ℕ) (expression : ℕ → Reader Expr) (s : SoundExpressions 
   lengths-sound_from (suc left) from lengths to e = into_either (mark marks.OpenBracket from) _ _ _ e
       (λ none same. let parts = some_pair_parts [] lengths from to same in rw (← parts.0, ← parts.1) grammar.Lengths.no_length)
       (λ inner o found. into_onward (expression 2 inner) _ _ found λ length close k more. into_past _ _ _ more λ rest m last.
-        into_onward (reading.lengths_from expression left rest) _ _ last λ others end known same.
-        let parts = some_pair_parts (length ∷ others) lengths end to same in
-        rw (← parts.0, ← parts.1) (grammar.Lengths.more_lengths o (s.sound 2 inner length close k).0 m
-          (lengths-sound_from left rest others end known)))
+      into_onward (reading.lengths_from expression left rest) _ _ last λ others end known same.
+      let parts = some_pair_parts (length ∷ others) lengths end to same in
+      rw (← parts.0, ← parts.1) (grammar.Lengths.more_lengths o (s.sound 2 inner length close k).0 m
+      (lengths-sound_from left rest others end known)))
 
   pub lengths-sound : (from : Input) (lengths : List Expr) (to : Input) → reading.lengths expression from ≡ Some (lengths, to) → Lengths from lengths to
   unfolding reading.lengths
@@ -76,12 +76,12 @@ module _ (limit : ℕ) (expression : ℕ → Reader Expr) (s : SoundExpressions 
   constant-sound from one to e = into _ (identifier from) _ e λ named n found.
       into_either (mark marks.Assign named.rest) _ _ _ found
       (λ none same. let parts = some_pair_parts (roll-Enumerator (record { name = named.name; value = None })) one
-          (declares named.rest named.name.text names.Ordinary) to same in
-        rw (← parts.0, ← parts.1) (grammar.Constant.implicit n))
+      (declares named.rest named.name.text names.Ordinary) to same in
+      rw (← parts.0, ← parts.1) (grammar.Constant.implicit n))
       (λ inner m more. into_onward (expression 2 inner) _ _ more λ value rest k same.
-        let parts = some_pair_parts (roll-Enumerator (record { name = named.name; value = Some value })) one
-          (declares rest named.name.text names.Ordinary) to same in
-        rw (← parts.0, ← parts.1) (grammar.Constant.valued n m (s.sound 2 inner value rest k).0))
+      let parts = some_pair_parts (roll-Enumerator (record { name = named.name; value = Some value })) one
+      (declares rest named.name.text names.Ordinary) to same in
+      rw (← parts.0, ← parts.1) (grammar.Constant.valued n m (s.sound 2 inner value rest k).0))
 
   constants-sound : (left : ℕ) (from : Input) (list : List Enumerator) (to : Input)
       → reading.enumerators_from expression left from ≡ Some (list, to) → Enumerators from list to
@@ -90,19 +90,19 @@ module _ (limit : ℕ) (expression : ℕ → Reader Expr) (s : SoundExpressions 
   constants-sound (suc left) from list to e = into_onward (reading.constant expression from) _ _ e λ one rest c found.
       into_either (mark marks.Comma rest) _ _ _ found
       (λ none last. into_past _ _ _ last λ end m same. let parts = some_pair_parts (one ∷ []) list end to same in
-        rw (← parts.0, ← parts.1) (grammar.Enumerators.last_constant (constant-sound from one rest c) m))
+      rw (← parts.0, ← parts.1) (grammar.Enumerators.last_constant (constant-sound from one rest c) m))
       (λ inner m more. into_either (mark marks.CloseBrace inner) _ _ _ more
-        (λ none last. into_onward (reading.enumerators_from expression left inner) _ _ last λ others end known same.
-          let parts = some_pair_parts (one ∷ others) list end to same in
-          rw (← parts.0, ← parts.1) (grammar.Enumerators.more_constants (constant-sound from one rest c) m
-            (constants-sound left inner others end known)))
-        (λ end b same. let parts = some_pair_parts (one ∷ []) list end to same in
-          rw (← parts.0, ← parts.1) (grammar.Enumerators.trailing_comma (constant-sound from one rest c) m b)))
+      (λ none last. into_onward (reading.enumerators_from expression left inner) _ _ last λ others end known same.
+      let parts = some_pair_parts (one ∷ others) list end to same in
+      rw (← parts.0, ← parts.1) (grammar.Enumerators.more_constants (constant-sound from one rest c) m
+      (constants-sound left inner others end known)))
+      (λ end b same. let parts = some_pair_parts (one ∷ []) list end to same in
+      rw (← parts.0, ← parts.1) (grammar.Enumerators.trailing_comma (constant-sound from one rest c) m b)))
 
   enumeration-sound : (attributes : List Attribute) (tag : Option Name) (inner : Input) (type : TypeSpecifier) (to : Input)
       → reading.enumeration expression attributes tag inner ≡ Some (type, to)
       → (P : TypeSpecifier → Input → Type 0) → ((es : List Enumerator) (end : Input) → Enumerators inner es end
-        → P (specifiers.EnumDefinition (roll-EnumDefinition (record { attributes = attributes; tag = tag; enumerators = es }))) end)
+      → P (specifiers.EnumDefinition (roll-EnumDefinition (record { attributes = attributes; tag = tag; enumerators = es }))) end)
       → P type to
   unfolding reading.enumeration
   enumeration-sound attributes tag inner type to e P k = into_onward (reading.enumerators_from expression (turns inner) inner) _ _ e λ es end c same.
@@ -115,17 +115,17 @@ module _ (limit : ℕ) (expression : ℕ → Reader Expr) (s : SoundExpressions 
   enum-sound from outer type to b e = into_onward (reading.attributes outer) _ _ e λ attributes rest a found.
       into_either (identifier rest) _ _ _ found
       (λ none last. into_past _ _ _ last λ inner o more.
-        enumeration-sound attributes None inner type to more (λ t i. SingleType from t i)
-        (λ es end c. grammar.SingleType.untagged_enumeration b (attributes-sound outer attributes rest a) o c))
+      enumeration-sound attributes None inner type to more (λ t i. SingleType from t i)
+      (λ es end c. grammar.SingleType.untagged_enumeration b (attributes-sound outer attributes rest a) o c))
       (λ named n last. into_either (mark marks.OpenBrace named.rest) _ _ _ last
-        (λ none same. let parts = some_pair_parts (specifiers.Enum attributes named.name) type named.rest to same in
-          rw (← parts.0, ← parts.1) (grammar.SingleType.enum b (attributes-sound outer attributes rest a) n))
-        (λ inner o more. enumeration-sound attributes (Some named.name) inner type to more (λ t i. SingleType from t i)
-          (λ es end c. grammar.SingleType.enumeration b (attributes-sound outer attributes rest a) n o c)))
+      (λ none same. let parts = some_pair_parts (specifiers.Enum attributes named.name) type named.rest to same in
+      rw (← parts.0, ← parts.1) (grammar.SingleType.enum b (attributes-sound outer attributes rest a) n))
+      (λ inner o more. enumeration-sound attributes (Some named.name) inner type to more (λ t i. SingleType from t i)
+      (λ es end c. grammar.SingleType.enumeration b (attributes-sound outer attributes rest a) n o c)))
 
   record-sound : (kind : RecordKind) (outer : Input) (type : TypeSpecifier) (to : Input) → reading.record_type expression kind outer ≡ Some (type, to)
       → (P : TypeSpecifier → Input → Type 0) → ((attributes : List Attribute) (rest : Input) (tag : Named)
-        → Attributes outer attributes rest → identifier rest ≡ Some tag → P (specifiers.Record kind attributes tag.name) tag.rest)
+      → Attributes outer attributes rest → identifier rest ≡ Some tag → P (specifiers.Record kind attributes tag.name) tag.rest)
       → P type to
   unfolding reading.record_type
   record-sound kind outer type to e P k = into_onward (reading.attributes outer) _ _ e λ attributes rest a found.
@@ -162,25 +162,25 @@ module _ (limit : ℕ) (expression : ℕ → Reader Expr) (s : SoundExpressions 
   specified-sound from words type to e = into_onward (reading.words is_specifier_word from) _ _ e λ before rest w found.
       into_if (list_any is_integer_word before) _ _ _ found
       (λ known more. into _ (integer_type before) _ more λ integer i same.
-        let parts = some_pair_parts (filter is_modifier before, specifiers.Integer integer) (words, type) rest to same in
-        rw (← ap (λ (p : List Keyword × TypeSpecifier). p.0) parts.0, ← ap (λ (p : List Keyword × TypeSpecifier). p.1) parts.0, ← parts.1)
-        (grammar.Specified.integer_words (words-sound is_specifier_word from before rest w) i))
+      let parts = some_pair_parts (filter is_modifier before, specifiers.Integer integer) (words, type) rest to same in
+      rw (← ap (λ (p : List Keyword × TypeSpecifier). p.0) parts.0, ← ap (λ (p : List Keyword × TypeSpecifier). p.1) parts.0, ← parts.1)
+      (grammar.Specified.integer_words (words-sound is_specifier_word from before rest w) i))
       (λ known more. into_onward (reading.single_type expression rest) _ _ more λ specifier inner t last.
-        into_onward (reading.words is_modifier inner) _ _ last λ after end a same.
-        let parts = some_pair_parts (before ++ after, specifier) (words, type) end to same in
-        rw (← ap (λ (p : List Keyword × TypeSpecifier). p.0) parts.0, ← ap (λ (p : List Keyword × TypeSpecifier). p.1) parts.0, ← parts.1)
-        (grammar.Specified.single_type (words-modifiers (words-sound is_specifier_word from before rest w) known)
-          (single-sound rest specifier inner t) (words-sound is_modifier inner after end a)))
+      into_onward (reading.words is_modifier inner) _ _ last λ after end a same.
+      let parts = some_pair_parts (before ++ after, specifier) (words, type) end to same in
+      rw (← ap (λ (p : List Keyword × TypeSpecifier). p.0) parts.0, ← ap (λ (p : List Keyword × TypeSpecifier). p.1) parts.0, ← parts.1)
+      (grammar.Specified.single_type (words-modifiers (words-sound is_specifier_word from before rest w) known)
+      (single-sound rest specifier inner t) (words-sound is_modifier inner after end a)))
 
   pub type-sound : (from : Input) (name : TypeName) (to : Input) → reading.type_named expression from ≡ Some (name, to) → TypeNamed from name to
   unfolding reading.type_named
   type-sound from name to e = into_onward (reading.specified expression from) _ _ e λ type rest k found.
       into_if (list_all is_qualifier type.0) _ _ _ found
       (λ known more. into_onward (reading.pointers rest) _ _ more λ count inner p last.
-        into_onward (reading.lengths expression inner) _ _ last λ lengths end l same.
-        let parts = some_pair_parts (grammar.type_name type.1 count lengths) name end to same in
-        rw (← parts.0, ← parts.1) (grammar.TypeNamed.type_named (specified-sound from type.0 type.1 rest k) (rw known refl)
-          (pointers-sound rest count inner p) (lengths-sound inner lengths end l)))
+      into_onward (reading.lengths expression inner) _ _ last λ lengths end l same.
+      let parts = some_pair_parts (grammar.type_name type.1 count lengths) name end to same in
+      rw (← parts.0, ← parts.1) (grammar.TypeNamed.type_named (specified-sound from type.0 type.1 rest k) (rw known refl)
+      (pointers-sound rest count inner p) (lengths-sound inner lengths end l)))
       (λ known none. absurd (none-some _ none))
 
 -- ---- expressions
@@ -194,8 +194,10 @@ pub record SoundBegun (limit level : ℕ) (from : Input) (b : Begun) : Type 0 wh
 -- the same by its own category
 own_level : (limit level : ℕ) (from : Input) (b : Begun) → SoundBegun limit level from b → SoundBegun limit b.level from b
 own_level limit level from b s = record {
-    same_level = refl; related = subst (λ l. Expression l from b.tree b.rest) (sym s.same_level) s.related; shallow = s.shallow;
-  }
+  same_level = refl;
+  related = subst (λ l. Expression l from b.tree b.rest) (sym s.same_level) s.related;
+  shallow = s.shallow;
+}
 
 made-sound : (limit level : ℕ) (place : Place) (kind : ExprKind) (from rest : Input) (b : Begun) → made limit level place kind rest ≡ Some b
     → Expression level from (node place kind) rest → SoundBegun limit level from b
@@ -220,11 +222,11 @@ module _ (limit : ℕ) (n : Nested) (s : SoundNested limit n) where
   list-sound (suc left) from arguments to e = into_onward (n.expression 1 from) _ _ e λ argument rest k found.
       into_either (mark marks.Comma rest) _ _ _ found
       (λ none last. into_past _ _ _ last λ end m same. let parts = some_pair_parts (argument ∷ []) arguments end to same in
-        rw (← parts.0, ← parts.1) (grammar.ArgumentList.last_argument (inner-sound 1 from argument rest k) m))
+      rw (← parts.0, ← parts.1) (grammar.ArgumentList.last_argument (inner-sound 1 from argument rest k) m))
       (λ inner m more. into_onward (reading.arguments_from limit n left inner) _ _ more λ others end known same.
-        let parts = some_pair_parts (argument ∷ others) arguments end to same in
-        rw (← parts.0, ← parts.1) (grammar.ArgumentList.more_arguments (inner-sound 1 from argument rest k) m
-          (list-sound left inner others end known)))
+      let parts = some_pair_parts (argument ∷ others) arguments end to same in
+      rw (← parts.0, ← parts.1) (grammar.ArgumentList.more_arguments (inner-sound 1 from argument rest k) m
+      (list-sound left inner others end known)))
 
   arguments-sound : (inner : Input) (arguments : List Expr) (to : Input) → reading.arguments limit n inner ≡ Some (arguments, to)
       → Arguments inner arguments to
@@ -232,7 +234,7 @@ module _ (limit : ℕ) (n : Nested) (s : SoundNested limit n) where
   arguments-sound inner arguments to e = into_either (mark marks.CloseParenthesis inner) _ _ _ e
       (λ none found. grammar.Arguments.some_arguments (list-sound (turns inner) inner arguments to found))
       (λ rest m same. let parts = some_pair_parts [] arguments rest to same in
-        rw (← parts.0, ← parts.1) (grammar.Arguments.no_argument m))
+      rw (← parts.0, ← parts.1) (grammar.Arguments.no_argument m))
 
   call-sound : (kind : List Expr → ExprKind) (place : Place) (from inner : Input) (b : Begun) → reading.call limit n kind place inner ≡ Some b
       → ((arguments : List Expr) (to : Input) → Arguments inner arguments to → Expression 15 from (node place (kind arguments)) to)
@@ -251,7 +253,7 @@ module _ (limit : ℕ) (n : Nested) (s : SoundNested limit n) where
 
   of_type-sound : (kind : TypeName → ExprKind) (place : Place) (from inner : Input) (b : Begun) → reading.of_type limit n kind place inner ≡ Some b
       → ((name : TypeName) (rest to : Input) → TypeNamed inner name rest → mark marks.CloseParenthesis rest ≡ Some to
-        → Expression 14 from (node place (kind name)) to)
+      → Expression 14 from (node place (kind name)) to)
       → SoundBegun limit 14 from b
   unfolding reading.of_type
   of_type-sound kind place from inner b e k = into_onward (n.type_name inner) _ _ e λ name rest t found.
@@ -278,7 +280,7 @@ module _ (limit : ℕ) (n : Nested) (s : SoundNested limit n) where
   unfolding reading.size_of
   size_of-sound place from outer b starts e = into_if (begins_cast outer) _ _ _ e
       (λ known found. into_past _ _ _ found λ inner o last. of_type-sound kinds.SizeOfType place from inner b last
-        (λ name rest to t m. grammar.Expression.size_of_type starts o t m))
+      (λ name rest to t m. grammar.Expression.size_of_type starts o t m))
       (λ known found. operand-sound 14 kinds.SizeOfExpr place from outer b found (λ operand to k. grammar.Expression.size_of_expr starts k))
 
   begun_by-sound : (begin : Start) (place : Place) (from rest : Input) (b : Begun) → grammar.Starts from begin place rest
@@ -387,13 +389,13 @@ module _ (limit : ℕ) (n : Nested) (s : SoundNested limit n) where
       into_either (behind so_far.rest) _ _ _ e
       (λ none same. stopped wanted from so_far tree to b h same)
       (λ taken c found. into_if (goes_on wanted taken.operator so_far.level) _ _ _ found
-        (λ known more. into _ (grown limit n taken.operator so_far.tree taken.rest) _ more λ next g last.
-          let levels = goes-on wanted taken.operator so_far.level known in
-          let sound = grown-sound taken.operator from so_far.tree so_far.rest taken.rest next
-            (loosen (left_level taken.operator) so_far.level levels.1 b.related) c g in
-          climb-sound wanted left from next tree to (own_level limit (level_of taken.operator) from next sound)
-          (omega (arith, levels, sound.same_level)) last)
-        (λ known same. stopped wanted from so_far tree to b h same))
+      (λ known more. into _ (grown limit n taken.operator so_far.tree taken.rest) _ more λ next g last.
+      let levels = goes-on wanted taken.operator so_far.level known in
+      let sound = grown-sound taken.operator from so_far.tree so_far.rest taken.rest next
+      (loosen (left_level taken.operator) so_far.level levels.1 b.related) c g in
+      climb-sound wanted left from next tree to (own_level limit (level_of taken.operator) from next sound)
+      (omega (arith, levels, sound.same_level)) last)
+      (λ known same. stopped wanted from so_far tree to b h same))
 
   expression-sound : (wanted : ℕ) (from : Input) (tree : Expr) (to : Input) → expression_with limit n wanted from ≡ Some (tree, to)
       → Expression wanted from tree to × (expression_depth tree ≤ limit)
@@ -406,9 +408,9 @@ module _ (limit : ℕ) (n : Nested) (s : SoundNested limit n) where
 pub nested-sound : (limit room : ℕ) → SoundNested limit (nested limit room)
 unfolding nested
 nested-sound limit zero = record {
-    expressions = record { sound = λ level from tree to e. absurd (none-some _ e) };
-    types = λ from name to e. absurd (none-some _ e);
-  }
+  expressions = record { sound = λ level from tree to e. absurd (none-some _ e) };
+  types = λ from name to e. absurd (none-some _ e);
+}
 nested-sound limit (suc room) =
     let s = nested-sound limit room in
     record {

@@ -1,9 +1,7 @@
 -- Statements that the grammar relates are what is read.
 use denote.Enum.Bare.{sameb}
-use Rattle.std.proofs.Common.{◌≡◌, ℕ, zero, suc, ◌+◌, ◌≤◌, ◌<◌, max, Bool, true, false, List, [], ◌∷◌, map, Option, Some, None, sym, refl, ap, ◌∙◌, arith, rules}
+use Rattle.std.proofs.Common.{◌≡◌, ℕ, zero, suc, ◌≤◌, ◌<◌, true, false, List, [], ◌∷◌, map, Option, Some, None, refl, ◌∙◌, arith}
 use Rattle.std.specs.Option.{option_map_or}
-use Rattle.std.proofs.lemmas.Bool.{false≢true}
-use Rattle.std.proofs.lemmas.Option.{none-some}
 use Rattle.rc_text.specs.declared.place.Place.{Place}
 use Rattle.c_lexer.specs.declared.keyword.Keyword.{Keyword}
 use Rattle.c_lexer.specs.declared.keyword.Keyword.TheVariants as words
@@ -21,7 +19,6 @@ use Rattle.c_syntax.specs.declared.attribute.Attribute.{Attribute}
 use Rattle.c_syntax.specs.declared.declaration.Declaration.{Declaration}
 use Rattle.c_syntax.specs.declared.expr.Expr.{Expr}
 use Rattle.c_syntax.specs.declared.stmt.ForInit.{ForInit}
-use Rattle.c_syntax.specs.declared.stmt.ForInit.TheVariants as inits
 use Rattle.c_syntax.specs.declared.stmt.Label.{Label}
 use Rattle.c_syntax.specs.declared.stmt.Label.TheVariants as labels
 use Rattle.c_syntax.specs.declared.stmt.Stmt.{Stmt}
@@ -45,7 +42,7 @@ use Rattle.c_grammar.proofs.Terminals.{next_is, other_mark, mark-turns}
 use Rattle.c_grammar.proofs.Keywords.{keyword-turns, other_keyword, no_mark_at_keyword, no_keyword_at_mark, no_type_at_keyword, no_keyword_at_start, no_keyword_at_type, no_type_at_mark, no_mark_at_begun}
 use Rattle.c_grammar.proofs.AttributesRead.{attributes-read, attributes-turns}
 use Rattle.c_grammar.proofs.Sizes.{expression-turns}
-use Rattle.c_grammar.proofs.ExpressionsRead.{Ends, ends_at, starts_here, no_type_here, no_mark_here, specified_here}
+use Rattle.c_grammar.proofs.ExpressionsRead.{ends_at, starts_here, no_type_here, no_mark_here, specified_here}
 use Rattle.c_grammar.proofs.DeclarationsRead.{whole, expression-whole}
 use Rattle.c_grammar.proofs.NamesRead.{local-turns, local-read}
 use Rattle.c_grammar.proofs.RecordsRead.{attributes_first, specified_first}
@@ -69,23 +66,31 @@ pub record Plain (from : Input) : Type 0 where
 plain_mark : (p : Punctuator) (from to : Input) → mark p from ≡ Some to → sameb punctuator.the_type marks.OpenBracket p ≡ false
     → sameb punctuator.the_type marks.CloseBrace p ≡ false → Plain from
 plain_mark p from to m a b = record {
-    type = no_type_at_mark p from to m; bracket = other_mark p marks.OpenBracket from to m a; brace = other_mark p marks.CloseBrace from to m b;
-    case = no_keyword_at_mark words.Case p from to m; default = no_keyword_at_mark words.Default p from to m;
-  }
+  type = no_type_at_mark p from to m;
+  bracket = other_mark p marks.OpenBracket from to m a;
+  brace = other_mark p marks.CloseBrace from to m b;
+  case = no_keyword_at_mark words.Case p from to m;
+  default = no_keyword_at_mark words.Default p from to m;
+}
 
 plain_keyword : (w : Keyword) (from to : Input) → keyword w from ≡ Some to → is_type (type_keyword w) ≡ false
     → sameb keyword_type.the_type words.Case w ≡ false → sameb keyword_type.the_type words.Default w ≡ false → Plain from
 plain_keyword w from to m none a b = record {
-    type = no_type_at_keyword w from to m none; bracket = no_mark_at_keyword marks.OpenBracket w from to m;
-    brace = no_mark_at_keyword marks.CloseBrace w from to m;
-    case = other_keyword w words.Case from to m a; default = other_keyword w words.Default from to m b;
-  }
+  type = no_type_at_keyword w from to m none;
+  bracket = no_mark_at_keyword marks.OpenBracket w from to m;
+  brace = no_mark_at_keyword marks.CloseBrace w from to m;
+  case = other_keyword w words.Case from to m a;
+  default = other_keyword w words.Default from to m b;
+}
 
 plain_expression : {level : ℕ} {from : Input} {tree : Expr} {to : Input} → Expression level from tree to → Plain from
 plain_expression e = record {
-    type = no_type_here e; bracket = no_mark_here marks.OpenBracket refl e; brace = no_mark_here marks.CloseBrace refl e;
-    case = no_keyword_here words.Case (λ meaning text. refl) e; default = no_keyword_here words.Default (λ meaning text. refl) e;
-  }
+  type = no_type_here e;
+  bracket = no_mark_here marks.OpenBracket refl e;
+  brace = no_mark_here marks.CloseBrace refl e;
+  case = no_keyword_here words.Case (λ meaning text. refl) e;
+  default = no_keyword_here words.Default (λ meaning text. refl) e;
+}
 
 pub kind_first : {position : Position} {from : Input} {kind : StmtKind} {to : Input} → Kind position from kind to → Plain from
 kind_first (grammar.Kind.compound {from = from} {inner = inner} m c) = plain_mark _ from inner m refl refl
@@ -124,16 +129,17 @@ pub record BeginsChild (from : Input) : Type 0 where
 
 statement_first : {position : Position} {from : Input} {tree : Stmt} {to : Input} → Statement position from tree to → BeginsChild from
 statement_first (grammar.Statement.statement a p k) = let f = kind_first k in record {
-    brace = attributes_first marks.CloseBrace refl a f.brace; case = attributes_no_keyword words.Case a f.case;
-    default = attributes_no_keyword words.Default a f.default;
-  }
+  brace = attributes_first marks.CloseBrace refl a f.brace;
+  case = attributes_no_keyword words.Case a f.case;
+  default = attributes_no_keyword words.Default a f.default;
+}
 
 declared_first : {from : Input} {tree : Stmt} {to : Input} → DeclaredChild from tree to → BeginsChild from
 declared_first (grammar.DeclaredChild.declared {behind = behind} a p d) = let h = local_here d in record {
-    brace = attributes_first marks.CloseBrace refl a h.2;
-    case = attributes_no_keyword words.Case a (no_keyword_at_type words.Case behind h.0 refl);
-    default = attributes_no_keyword words.Default a (no_keyword_at_type words.Default behind h.0 refl);
-  }
+  brace = attributes_first marks.CloseBrace refl a h.2;
+  case = attributes_no_keyword words.Case a (no_keyword_at_type words.Case behind h.0 refl);
+  default = attributes_no_keyword words.Default a (no_keyword_at_type words.Default behind h.0 refl);
+}
 
 no_label : (from : Input) → keyword words.Case from ≡ None → keyword words.Default from ≡ None → begins_label from ≡ false
 unfolding begins_label
@@ -188,8 +194,17 @@ mutual
   kind-turns (grammar.Kind.do_ {from = from} {inner = inner} {behind = behind} {open_ = outer} {close = close} {to = to} k s w t m) =
       omega (arith, keyword-turns _ from inner k, statement-turns s, keyword-turns _ (under inner behind) outer w, tested-turns t, mark-turns _ close to m)
   kind-turns (grammar.Kind.for {from = from} {open_ = outer} {inner = inner} {second = second} {third = third} {close = close} {rest = rest} k a b c d e f s) =
-      omega (arith, keyword-turns _ from outer k, mark-turns _ outer inner a, begun-turns b, optional-turns c, mark-turns _ second third d,
-        optional-turns e, mark-turns _ close rest f, statement-turns s)
+      omega (
+        arith,
+        keyword-turns _ from outer k,
+        mark-turns _ outer inner a,
+        begun-turns b,
+        optional-turns c,
+        mark-turns _ second third d,
+        optional-turns e,
+        mark-turns _ close rest f,
+        statement-turns s,
+      )
   kind-turns (grammar.Kind.continue {from = from} {behind = behind} {to = to} p k m) = omega (arith, keyword-turns _ from behind k, mark-turns _ behind to m)
   kind-turns (grammar.Kind.break {from = from} {behind = behind} {to = to} p k m) = omega (arith, keyword-turns _ from behind k, mark-turns _ behind to m)
   kind-turns (grammar.Kind.return {from = from} {inner = inner} {behind = behind} {to = to} k v m) =
@@ -249,12 +264,20 @@ module _ (limit : ℕ) where
   labels-read (grammar.Labels.default p k c) (suc left) h within none = rw (default-label _ _ _ _ p k c, none) refl
   labels-read (grammar.Labels.more_case {from = from} {inner = inner} p k e c others) zero h within none = absurd (omega (arith, h, keyword-turns _ from inner k))
   labels-read (grammar.Labels.more_case {from = from} {inner = inner} {colon = colon} {behind = behind} p k e c others) (suc left) h within none =
-      rw (case-label _ _ _ _ _ _ p k e c (omega (arith, within)), (label_first others).0, labels-read others left
-        (omega (arith, h, keyword-turns _ from inner k, expression-turns e, mark-turns _ colon behind c)) (omega (arith, within)) none) refl
+      rw (
+        case-label _ _ _ _ _ _ p k e c (omega (arith, within)),
+        (label_first others).0,
+        labels-read others left
+            (omega (arith, h, keyword-turns _ from inner k, expression-turns e, mark-turns _ colon behind c)) (omega (arith, within)) none,
+      ) refl
   labels-read (grammar.Labels.more_default {from = from} {colon = colon} p k c others) zero h within none = absurd (omega (arith, h, keyword-turns _ from colon k))
   labels-read (grammar.Labels.more_default {from = from} {colon = colon} {behind = behind} p k c others) (suc left) h within none =
-      rw (default-label _ _ _ _ p k c, (label_first others).0, labels-read others left
-        (omega (arith, h, keyword-turns _ from colon k, mark-turns _ colon behind c)) (omega (arith, within)) none) refl
+      rw (
+        default-label _ _ _ _ p k c,
+        (label_first others).0,
+        labels-read others left
+            (omega (arith, h, keyword-turns _ from colon k, mark-turns _ colon behind c)) (omega (arith, within)) none,
+      ) refl
 
   tested-read : {from : Input} {tree : Expr} {to : Input} → Tested from tree to → expression_depth tree ≤ limit
       → statements.tested (whole limit) from ≡ Some (tree, to)
@@ -276,8 +299,13 @@ module _ (limit : ℕ) where
   unfolding statements.begun statements.begun_declaration statements.begun_expression
   begun-read (grammar.Begun.nothing m) some within = rw m refl
   begun-read (grammar.Begun.expression {from = from} {behind = behind} {to = to} e m) some within =
-      rw (no_mark_here marks.Semicolon refl e, attributes-read (attributes.Attributes.none {from = from}) (no_mark_here marks.OpenBracket refl e),
-        no_type_here e, expression-whole limit 0 e within (ends_at 0 _ behind (next_is _ behind to m) refl refl), m) refl
+      rw (
+        no_mark_here marks.Semicolon refl e,
+        attributes-read (attributes.Attributes.none {from = from}) (no_mark_here marks.OpenBracket refl e),
+        no_type_here e,
+        expression-whole limit 0 e within (ends_at 0 _ behind (next_is _ behind to m) refl refl),
+        m,
+      ) refl
   begun-read (grammar.Begun.declaration {behind = behind} a p d) some within = let h = local_here d in
       rw (attributes_first marks.Semicolon refl a (local_no_semicolon d), attributes-read a h.1, h.0, p, local-read limit d some within) refl
 
@@ -319,9 +347,14 @@ module _ (limit : ℕ) where
         → statements.case_child (whole limit) inner position from ≡ Some (stated place list attributes kind, to)
     unfolding statements.case_child statements.labelled statements.stated_behind
     labelled-is position {from = from} {start = start} l within a f p k =
-        rw ((label_first l).0, labels-read l (turns from) (omega arith) within
-          (no_label start (attributes_no_keyword words.Case a f.case) (attributes_no_keyword words.Default a f.default)),
-          attributes-read a f.bracket, p, k) refl
+        rw (
+          (label_first l).0,
+          labels-read l (turns from) (omega arith) within
+              (no_label start (attributes_no_keyword words.Case a f.case) (attributes_no_keyword words.Default a f.default)),
+          attributes-read a f.bracket,
+          p,
+          k,
+        ) refl
 
     unlabelled-is : (position : Position) {from : Input} {one : Stmt} {rest : Input} → BeginsChild from
         → statements.child (whole limit) inner position from ≡ Some (one, rest)
@@ -406,8 +439,16 @@ module _ (limit : ℕ) where
         → kind_with (whole limit) inner position from ≡ Some (kinds.Do body test, under from to)
     unfolding statements.keyword_kind statements.loop_kind statements.do_behind
     do-is position from start body rest outer test close to k s w t m = by_keyword position words.Do from start k
-        ∙ rw (other_keyword _ words.If from start k refl, other_keyword _ words.Switch from start k refl,
-          other_keyword _ words.While from start k refl, k, s, w, t, m) refl
+        ∙ rw (
+          other_keyword _ words.If from start k refl,
+          other_keyword _ words.Switch from start k refl,
+          other_keyword _ words.While from start k refl,
+          k,
+          s,
+          w,
+          t,
+          m,
+        ) refl
 
     for-is : (position : Position) (from outer start : Input) (init : ForInit) (first : Input) (test : Option Expr) (second third : Input)
         (step : Option Expr) (close rest : Input) (body : Stmt) (to : Input)
@@ -418,42 +459,88 @@ module _ (limit : ℕ) where
         → kind_with (whole limit) inner position from ≡ Some (kinds.For init test step body, under from to)
     unfolding statements.keyword_kind statements.loop_kind statements.for_behind
     for-is position from outer start init first test second third step close rest body to k a b c d e f s = by_keyword position words.For from outer k
-        ∙ rw (other_keyword _ words.If from outer k refl, other_keyword _ words.Switch from outer k refl,
-          other_keyword _ words.While from outer k refl, other_keyword _ words.Do from outer k refl, k, a, b, c, d, e, f, s) refl
+        ∙ rw (
+          other_keyword _ words.If from outer k refl,
+          other_keyword _ words.Switch from outer k refl,
+          other_keyword _ words.While from outer k refl,
+          other_keyword _ words.Do from outer k refl,
+          k,
+          a,
+          b,
+          c,
+          d,
+          e,
+          f,
+          s,
+        ) refl
 
     continue-is : (position : Position) (from rest to : Input) → position.continues ≡ true → keyword words.Continue from ≡ Some rest
         → mark marks.Semicolon rest ≡ Some to → kind_with (whole limit) inner position from ≡ Some (kinds.Continue, to)
     unfolding statements.keyword_kind statements.loop_kind statements.jump_kind statements.jump
     continue-is position from rest to p k m = by_keyword position words.Continue from rest k
-        ∙ rw (other_keyword _ words.If from rest k refl, other_keyword _ words.Switch from rest k refl, other_keyword _ words.While from rest k refl,
-          other_keyword _ words.Do from rest k refl, other_keyword _ words.For from rest k refl, k, p, m) refl
+        ∙ rw (
+          other_keyword _ words.If from rest k refl,
+          other_keyword _ words.Switch from rest k refl,
+          other_keyword _ words.While from rest k refl,
+          other_keyword _ words.Do from rest k refl,
+          other_keyword _ words.For from rest k refl,
+          k,
+          p,
+          m,
+        ) refl
 
     break-is : (position : Position) (from rest to : Input) → position.breaks ≡ true → keyword words.Break from ≡ Some rest
         → mark marks.Semicolon rest ≡ Some to → kind_with (whole limit) inner position from ≡ Some (kinds.Break, to)
     unfolding statements.keyword_kind statements.loop_kind statements.jump_kind statements.jump
     break-is position from rest to p k m = by_keyword position words.Break from rest k
-        ∙ rw (other_keyword _ words.If from rest k refl, other_keyword _ words.Switch from rest k refl, other_keyword _ words.While from rest k refl,
-          other_keyword _ words.Do from rest k refl, other_keyword _ words.For from rest k refl, other_keyword _ words.Continue from rest k refl, k, p, m) refl
+        ∙ rw (
+          other_keyword _ words.If from rest k refl,
+          other_keyword _ words.Switch from rest k refl,
+          other_keyword _ words.While from rest k refl,
+          other_keyword _ words.Do from rest k refl,
+          other_keyword _ words.For from rest k refl,
+          other_keyword _ words.Continue from rest k refl,
+          k,
+          p,
+          m,
+        ) refl
 
     return-is : (position : Position) (from start : Input) (value : Option Expr) (rest to : Input) → keyword words.Return from ≡ Some start
         → statements.optional (whole limit) marks.Semicolon start ≡ Some (value, rest) → mark marks.Semicolon rest ≡ Some to
         → kind_with (whole limit) inner position from ≡ Some (kinds.Return value, to)
     unfolding statements.keyword_kind statements.loop_kind statements.jump_kind statements.return_behind
     return-is position from start value rest to k v m = by_keyword position words.Return from start k
-        ∙ rw (other_keyword _ words.If from start k refl, other_keyword _ words.Switch from start k refl, other_keyword _ words.While from start k refl,
-          other_keyword _ words.Do from start k refl, other_keyword _ words.For from start k refl, other_keyword _ words.Continue from start k refl,
-          other_keyword _ words.Break from start k refl, k, v, m) refl
+        ∙ rw (
+          other_keyword _ words.If from start k refl,
+          other_keyword _ words.Switch from start k refl,
+          other_keyword _ words.While from start k refl,
+          other_keyword _ words.Do from start k refl,
+          other_keyword _ words.For from start k refl,
+          other_keyword _ words.Continue from start k refl,
+          other_keyword _ words.Break from start k refl,
+          k,
+          v,
+          m,
+        ) refl
 
     expression-is : (position : Position) {from : Input} {tree : Expr} {rest to : Input} → Expression 0 from tree rest → expression_depth tree ≤ limit
         → mark marks.Semicolon rest ≡ Some to → kind_with (whole limit) inner position from ≡ Some (kinds.Expression tree, to)
     unfolding kind_with statements.keyword_kind statements.loop_kind statements.jump_kind statements.expression_kind
     expression-is position {rest = rest} {to = to} e within m =
-        rw (no_mark_here marks.OpenBrace refl e, no_mark_here marks.Semicolon refl e, no_keyword_here words.If (λ meaning text. refl) e,
-          no_keyword_here words.Switch (λ meaning text. refl) e, no_keyword_here words.While (λ meaning text. refl) e,
-          no_keyword_here words.Do (λ meaning text. refl) e, no_keyword_here words.For (λ meaning text. refl) e,
-          no_keyword_here words.Continue (λ meaning text. refl) e, no_keyword_here words.Break (λ meaning text. refl) e,
+        rw (
+          no_mark_here marks.OpenBrace refl e,
+          no_mark_here marks.Semicolon refl e,
+          no_keyword_here words.If (λ meaning text. refl) e,
+          no_keyword_here words.Switch (λ meaning text. refl) e,
+          no_keyword_here words.While (λ meaning text. refl) e,
+          no_keyword_here words.Do (λ meaning text. refl) e,
+          no_keyword_here words.For (λ meaning text. refl) e,
+          no_keyword_here words.Continue (λ meaning text. refl) e,
+          no_keyword_here words.Break (λ meaning text. refl) e,
           no_keyword_here words.Return (λ meaning text. refl) e,
-          expression-whole limit 0 e within (ends_at 0 _ rest (next_is _ rest to m) refl refl), m) refl
+          expression-whole limit 0 e within (ends_at 0 _ rest (next_is _ rest to m) refl refl),
+          m,
+        ) refl
 
   next_kind : (room : ℕ) (position : Position) (from : Input) → kind_at (whole limit) (suc room) position from
       ≡ kind_with (whole limit) (kind_at (whole limit) room) position from
@@ -578,7 +665,7 @@ module _ (limit : ℕ) where
         let d = depth-stated place labels list kind in
         more_cases (kind_at (whole limit) (suc room)) position left from (stated place labels list kind) rest children to (label_first l).1
         (labelled-is (kind_at (whole limit) (suc room)) position l (omega (arith, d, within)) a (kind_first k) p
-          (kind-read k room (omega (arith, d, deep)) (omega (arith, d, within))))
+        (kind-read k room (omega (arith, d, deep)) (omega (arith, d, within))))
         (cases-read others (suc room) left (omega (arith, h, labels-turns l, attributes-turns a, kind-turns k)) (omega (arith, deep)) (omega (arith, within)))
     cases-read (grammar.Cases.declared_case d others) room zero h deep within = absurd (omega (arith, h, declared-turns d))
     cases-read {position} (grammar.Cases.declared_case {from = from} {one = one} {behind = rest} {others = list} {to = to} d others) room (suc left) h deep within =

@@ -1,8 +1,8 @@
 -- What is read of statements is related by the grammar.
-use Rattle.std.proofs.Common.{◌≡◌, ℕ, zero, suc, ◌≤◌, Bool, true, false, List, [], ◌∷◌, Option, Some, None, sym, refl, ap, ◌∙◌, arith, rules}
+use Rattle.std.proofs.Common.{◌≡◌, ℕ, zero, suc, List, [], ◌∷◌, Option, Some, None}
 use Rattle.std.specs.Prelude.{◌⊎◌}
 use mathlib.Core.Logic.{inl, inr, ⊎_elim}
-use Rattle.std.proofs.lemmas.Option.{none-some, same_Some, some_pair_parts}
+use Rattle.std.proofs.lemmas.Option.{none-some, some_pair_parts}
 use Rattle.rc_text.specs.declared.place.Place.{Place}
 use Rattle.c_lexer.specs.declared.keyword.Keyword.TheVariants as words
 use Rattle.c_lexer.specs.declared.punctuator.Punctuator.{Punctuator}
@@ -17,8 +17,6 @@ use Rattle.c_syntax.specs.declared.stmt.Stmt.{Stmt}
 use Rattle.c_syntax.specs.declared.stmt.StmtKind.{StmtKind}
 use Rattle.c_syntax.specs.declared.stmt.StmtKind.TheVariants as kinds
 use Rattle.c_grammar.specs.Input.{Input, mark}
-use Rattle.c_grammar.specs.Attributes.{Attributes}
-use Rattle.c_grammar.specs.Expressions.{Expression}
 use Rattle.c_grammar.specs.Declarations.{under}
 use Rattle.c_grammar.specs.Statements as grammar
 use Rattle.c_grammar.specs.Statements.{keyword, place_of, Position, in_loop, in_switch, Labels, Tested, Optional, Begun, Statement, Kind, Children, DeclaredChild, SwitchBody, Cases}
@@ -73,8 +71,8 @@ module _ (limit : ℕ) (expression : ℕ → Reader Expr) (s : SoundExpressions 
       let label = label-sound from one rest l in
       into_if (begins_label rest) _ _ _ found
       (λ known more. into_onward (statements.labels_from expression left rest) _ _ more λ others end o same.
-        let parts = some_pair_parts (one ∷ others) list end to same in
-        rw (← parts.0, ← parts.1) (label.before others end (labels-sound left rest others end o)))
+      let parts = some_pair_parts (one ∷ others) list end to same in
+      rw (← parts.0, ← parts.1) (label.before others end (labels-sound left rest others end o)))
       (λ known same. let parts = some_pair_parts (one ∷ []) list rest to same in rw (← parts.0, ← parts.1) label.alone)
 
   tested-sound : (from : Input) (tree : Expr) (to : Input) → statements.tested expression from ≡ Some (tree, to) → Tested from tree to
@@ -88,19 +86,19 @@ module _ (limit : ℕ) (expression : ℕ → Reader Expr) (s : SoundExpressions 
   unfolding statements.optional
   optional-sound p from tree to e = into_either (mark p from) _ _ _ e
       (λ none found. into_onward (expression 0 from) _ _ found λ t end k same. let parts = some_pair_parts (Some t) tree end to same in
-        rw (← parts.0, ← parts.1) (grammar.Optional.given (s.sound 0 from t end k).0))
+      rw (← parts.0, ← parts.1) (grammar.Optional.given (s.sound 0 from t end k).0))
       (λ end m same. let parts = some_pair_parts None tree from to same in rw (← parts.0, ← parts.1) grammar.Optional.missing)
 
   begun-sound : (from : Input) (init : ForInit) (to : Input) → statements.begun expression from ≡ Some (init, to) → Begun from init to
   unfolding statements.begun statements.begun_declaration statements.begun_expression
   begun-sound from init to e = into_either (mark marks.Semicolon from) _ _ _ e
       (λ none found. into_onward (reading.attributes from) _ _ found λ list behind a more. into_if (begins_type behind) _ _ _ more
-        (λ known next. into _ (place_of behind) _ next λ place p last. into_onward (declarations.local_declaration expression behind) _ _ last λ tree end d same.
-          let parts = some_pair_parts (inits.Declaration place list tree) init end to same in
-          rw (← parts.0, ← parts.1) (grammar.Begun.declaration (attributes-sound from list behind a) p (local-sound limit expression s behind tree end d)))
-        (λ known next. into_onward (expression 0 from) _ _ next λ tree rest k last. into_past _ _ _ last λ end m same.
-          let parts = some_pair_parts (inits.Expression tree) init end to same in
-          rw (← parts.0, ← parts.1) (grammar.Begun.expression (s.sound 0 from tree rest k).0 m)))
+      (λ known next. into _ (place_of behind) _ next λ place p last. into_onward (declarations.local_declaration expression behind) _ _ last λ tree end d same.
+      let parts = some_pair_parts (inits.Declaration place list tree) init end to same in
+      rw (← parts.0, ← parts.1) (grammar.Begun.declaration (attributes-sound from list behind a) p (local-sound limit expression s behind tree end d)))
+      (λ known next. into_onward (expression 0 from) _ _ next λ tree rest k last. into_past _ _ _ last λ end m same.
+      let parts = some_pair_parts (inits.Expression tree) init end to same in
+      rw (← parts.0, ← parts.1) (grammar.Begun.expression (s.sound 0 from tree rest k).0 m)))
       (λ end m same. let parts = some_pair_parts inits.Nothing init end to same in rw (← parts.0, ← parts.1) (grammar.Begun.nothing m))
 
   module _ (inner_kind : Position → Reader StmtKind)
@@ -138,10 +136,10 @@ module _ (limit : ℕ) (expression : ℕ → Reader Expr) (s : SoundExpressions 
     child-sound position from tree to e = into_onward (reading.attributes from) _ _ e λ list behind a found.
         into_if (begins_type behind) _ _ _ found
         (λ known more. into _ (place_of behind) _ more λ place p last. into_onward (declarations.local_declaration expression behind) _ _ last λ d end l same.
-          let parts = some_pair_parts (stated place [] list (kinds.Declaration d)) tree end to same in
-          rw (← parts.0, ← parts.1) (inl (grammar.DeclaredChild.declared (attributes-sound from list behind a) p (local-sound limit expression s behind d end l))))
+        let parts = some_pair_parts (stated place [] list (kinds.Declaration d)) tree end to same in
+        rw (← parts.0, ← parts.1) (inl (grammar.DeclaredChild.declared (attributes-sound from list behind a) p (local-sound limit expression s behind d end l))))
         (λ known more. let parts = behind-sound position [] list behind tree to more in
-          rw (← parts.same) (inr (grammar.Statement.statement (attributes-sound from list behind a) parts.placed parts.related)))
+        rw (← parts.same) (inr (grammar.Statement.statement (attributes-sound from list behind a) parts.placed parts.related)))
 
     children-sound : (position : Position) (left : ℕ) (from : Input) (list : List Stmt) (to : Input)
         → statements.children_from expression inner_kind position left from ≡ Some (list, to) → Children position from list to
@@ -149,11 +147,11 @@ module _ (limit : ℕ) (expression : ℕ → Reader Expr) (s : SoundExpressions 
     children-sound position zero from list to e = absurd (none-some _ e)
     children-sound position (suc left) from list to e = into_either (mark marks.CloseBrace from) _ _ _ e
         (λ none found. into_onward (statements.child expression inner_kind position from) _ _ found λ one rest c more.
-          into_onward (statements.children_from expression inner_kind position left rest) _ _ more λ others end o same.
-          let parts = some_pair_parts (one ∷ others) list end to same in
-          let behind = children-sound position left rest others end o in
-          rw (← parts.0, ← parts.1) (⊎_elim (λ d. grammar.Children.declared_child d behind) (λ t. grammar.Children.stated_child t behind)
-            (child-sound position from one rest c)))
+        into_onward (statements.children_from expression inner_kind position left rest) _ _ more λ others end o same.
+        let parts = some_pair_parts (one ∷ others) list end to same in
+        let behind = children-sound position left rest others end o in
+        rw (← parts.0, ← parts.1) (⊎_elim (λ d. grammar.Children.declared_child d behind) (λ t. grammar.Children.stated_child t behind)
+        (child-sound position from one rest c)))
         (λ end m same. let parts = some_pair_parts [] list end to same in rw (← parts.0, ← parts.1) (grammar.Children.no_child m))
 
     case_child-sound : (position : Position) (from : Input) (one : Stmt) (rest : Input) (others : List Stmt) (to : Input)
@@ -162,12 +160,12 @@ module _ (limit : ℕ) (expression : ℕ → Reader Expr) (s : SoundExpressions 
     unfolding statements.case_child statements.labelled ChildIs
     case_child-sound position from one rest others to e behind = into_if (begins_label from) _ _ _ e
         (λ known found. into_onward (statements.labels_from expression (turns from) from) _ _ found λ list inner l more.
-          into_onward (reading.attributes inner) _ _ more λ attributes start a last.
-          let parts = behind-sound position list attributes start one rest last in
-          rw (← parts.same) (grammar.Cases.labelled_case (labels-sound (turns from) from list inner l) (attributes-sound inner attributes start a)
-            parts.placed parts.related behind))
+        into_onward (reading.attributes inner) _ _ more λ attributes start a last.
+        let parts = behind-sound position list attributes start one rest last in
+        rw (← parts.same) (grammar.Cases.labelled_case (labels-sound (turns from) from list inner l) (attributes-sound inner attributes start a)
+        parts.placed parts.related behind))
         (λ known found. ⊎_elim (λ d. grammar.Cases.declared_case d behind) (λ t. grammar.Cases.stated_case t behind)
-          (child-sound position from one rest found))
+        (child-sound position from one rest found))
 
     cases-sound : (position : Position) (left : ℕ) (from : Input) (list : List Stmt) (to : Input)
         → statements.cases_from expression inner_kind position left from ≡ Some (list, to) → Cases position from list to
@@ -175,9 +173,9 @@ module _ (limit : ℕ) (expression : ℕ → Reader Expr) (s : SoundExpressions 
     cases-sound position zero from list to e = absurd (none-some _ e)
     cases-sound position (suc left) from list to e = into_either (mark marks.CloseBrace from) _ _ _ e
         (λ none found. into_onward (statements.case_child expression inner_kind position from) _ _ found λ one rest c more.
-          into_onward (statements.cases_from expression inner_kind position left rest) _ _ more λ others end o same.
-          let parts = some_pair_parts (one ∷ others) list end to same in
-          rw (← parts.0, ← parts.1) (case_child-sound position from one rest others end c (cases-sound position left rest others end o)))
+        into_onward (statements.cases_from expression inner_kind position left rest) _ _ more λ others end o same.
+        let parts = some_pair_parts (one ∷ others) list end to same in
+        rw (← parts.0, ← parts.1) (case_child-sound position from one rest others end c (cases-sound position left rest others end o)))
         (λ end m same. let parts = some_pair_parts [] list end to same in rw (← parts.0, ← parts.1) (grammar.Cases.no_case m))
 
     switch-sound : (position : Position) (from : Input) (tree : Stmt) (to : Input)
@@ -195,11 +193,11 @@ module _ (limit : ℕ) (expression : ℕ → Reader Expr) (s : SoundExpressions 
         into_onward (statements.statement expression inner_kind position start) _ _ found λ one rest o more.
         into_either (keyword words.Else (under start rest)) _ _ _ more
         (λ none same. let parts = some_pair_parts (kinds.If test one) kind (under from rest) to same in
-          rw (← parts.0, ← parts.1) (grammar.Kind.if_ w (tested-sound outer test start t) (statement-sound position start one rest o) none))
+        rw (← parts.0, ← parts.1) (grammar.Kind.if_ w (tested-sound outer test start t) (statement-sound position start one rest o) none))
         (λ other n last. into_onward (statements.statement expression inner_kind position other) _ _ last λ two end b same.
-          let parts = some_pair_parts (kinds.IfElse test one two) kind (under from end) to same in
-          rw (← parts.0, ← parts.1) (grammar.Kind.if_else w (tested-sound outer test start t) (statement-sound position start one rest o) n
-            (statement-sound position other two end b)))
+        let parts = some_pair_parts (kinds.IfElse test one two) kind (under from end) to same in
+        rw (← parts.0, ← parts.1) (grammar.Kind.if_else w (tested-sound outer test start t) (statement-sound position start one rest o) n
+        (statement-sound position other two end b)))
 
     switch_kind-sound : (position : Position) (from outer : Input) (kind : StmtKind) (to : Input) → keyword words.Switch from ≡ Some outer
         → statements.switch_behind expression inner_kind position from outer ≡ Some (kind, to) → Kind position from kind to
@@ -234,7 +232,7 @@ module _ (limit : ℕ) (expression : ℕ → Reader Expr) (s : SoundExpressions 
         into_onward (statements.statement expression inner_kind in_loop rest) _ _ f6 λ body end o same.
         let parts = some_pair_parts (kinds.For init test step body) kind (under from end) to same in
         rw (← parts.0, ← parts.1) (grammar.Kind.for w a (begun-sound start init first b) (optional-sound marks.Semicolon first test second c) d
-          (optional-sound marks.CloseParenthesis third step close g) h (statement-sound in_loop rest body end o))
+        (optional-sound marks.CloseParenthesis third step close g) h (statement-sound in_loop rest body end o))
 
     return-sound : (position : Position) (from start : Input) (kind : StmtKind) (to : Input) → keyword words.Return from ≡ Some start
         → statements.return_behind expression inner_kind start ≡ Some (kind, to) → Kind position from kind to
@@ -255,36 +253,36 @@ module _ (limit : ℕ) (expression : ℕ → Reader Expr) (s : SoundExpressions 
     unfolding statements.jump_kind statements.jump
     jump-sound position from kind to e = into_either (keyword words.Continue from) _ _ _ e
         (λ _ f1. into_either (keyword words.Break from) _ _ _ f1
-          (λ _ f2. into_either (keyword words.Return from) _ _ _ f2 (λ _ f3. expression-sound position from kind to f3)
-            (λ start w f3. return-sound position from start kind to w f3))
-          (λ rest w f2. into_if position.breaks _ _ _ f2
-            (λ allowed f3. into_past _ _ _ f3 λ end m same. let parts = some_pair_parts kinds.Break kind end to same in
-              rw (← parts.0, ← parts.1) (grammar.Kind.break allowed w m))
-            (λ _ none. absurd (none-some _ none))))
+        (λ _ f2. into_either (keyword words.Return from) _ _ _ f2 (λ _ f3. expression-sound position from kind to f3)
+        (λ start w f3. return-sound position from start kind to w f3))
+        (λ rest w f2. into_if position.breaks _ _ _ f2
+        (λ allowed f3. into_past _ _ _ f3 λ end m same. let parts = some_pair_parts kinds.Break kind end to same in
+        rw (← parts.0, ← parts.1) (grammar.Kind.break allowed w m))
+        (λ _ none. absurd (none-some _ none))))
         (λ rest w f1. into_if position.continues _ _ _ f1
-          (λ allowed f2. into_past _ _ _ f2 λ end m same. let parts = some_pair_parts kinds.Continue kind end to same in
-            rw (← parts.0, ← parts.1) (grammar.Kind.continue allowed w m))
-          (λ _ none. absurd (none-some _ none)))
+        (λ allowed f2. into_past _ _ _ f2 λ end m same. let parts = some_pair_parts kinds.Continue kind end to same in
+        rw (← parts.0, ← parts.1) (grammar.Kind.continue allowed w m))
+        (λ _ none. absurd (none-some _ none)))
 
     kind-sound : (position : Position) (from : Input) (kind : StmtKind) (to : Input)
         → kind_with expression inner_kind position from ≡ Some (kind, to) → Kind position from kind to
     unfolding kind_with statements.keyword_kind statements.loop_kind
     kind-sound position from kind to e = into_either (mark marks.OpenBrace from) _ _ _ e
         (λ _ f1. into_either (mark marks.Semicolon from) _ _ _ f1
-          (λ _ f2. into_either (keyword words.If from) _ _ _ f2
-            (λ _ f3. into_either (keyword words.Switch from) _ _ _ f3
-              (λ _ f4. into_either (keyword words.While from) _ _ _ f4
-                (λ _ f5. into_either (keyword words.Do from) _ _ _ f5
-                  (λ _ f6. into_either (keyword words.For from) _ _ _ f6 (λ _ f7. jump-sound position from kind to f7)
-                    (λ outer w f7. for-sound position from outer kind to w f7))
-                  (λ start w f6. do-sound position from start kind to w f6))
-                (λ outer w f5. while-sound position from outer kind to w f5))
-              (λ outer w f4. switch_kind-sound position from outer kind to w f4))
-            (λ outer w f3. if-sound position from outer kind to w f3))
-          (λ end m same. let parts = some_pair_parts kinds.Empty kind end to same in rw (← parts.0, ← parts.1) (grammar.Kind.empty m)))
+        (λ _ f2. into_either (keyword words.If from) _ _ _ f2
+        (λ _ f3. into_either (keyword words.Switch from) _ _ _ f3
+        (λ _ f4. into_either (keyword words.While from) _ _ _ f4
+        (λ _ f5. into_either (keyword words.Do from) _ _ _ f5
+        (λ _ f6. into_either (keyword words.For from) _ _ _ f6 (λ _ f7. jump-sound position from kind to f7)
+        (λ outer w f7. for-sound position from outer kind to w f7))
+        (λ start w f6. do-sound position from start kind to w f6))
+        (λ outer w f5. while-sound position from outer kind to w f5))
+        (λ outer w f4. switch_kind-sound position from outer kind to w f4))
+        (λ outer w f3. if-sound position from outer kind to w f3))
+        (λ end m same. let parts = some_pair_parts kinds.Empty kind end to same in rw (← parts.0, ← parts.1) (grammar.Kind.empty m)))
         (λ start m f1. into_onward (statements.children_from expression inner_kind position (turns start) start) _ _ f1 λ children end c same.
-          let parts = some_pair_parts (kinds.Compound children) kind (under from end) to same in
-          rw (← parts.0, ← parts.1) (grammar.Kind.compound m (children-sound position (turns start) start children end c)))
+        let parts = some_pair_parts (kinds.Compound children) kind (under from end) to same in
+        rw (← parts.0, ← parts.1) (grammar.Kind.compound m (children-sound position (turns start) start children end c)))
 
   pub kind_at-sound : (room : ℕ) (position : Position) (from : Input) (kind : StmtKind) (to : Input)
       → kind_at expression room position from ≡ Some (kind, to) → Kind position from kind to

@@ -1,6 +1,6 @@
 -- What is known of a reading that found something: each of its steps did.
-use Rattle.std.proofs.Common.{◌≡◌, ℕ, ◌≤◌, ◌<◌, Bool, true, false, nat_le, if◌then◌else◌, List, Option, Some, None, option_and_then, refl, arith, rules}
-use Rattle.std.proofs.lemmas.Option.{none-some, same_Some}
+use Rattle.std.proofs.Common.{◌≡◌, ℕ, ◌≤◌, ◌<◌, Bool, true, false, nat_le, if◌then◌else◌, Option, Some, None, option_and_then, refl, arith}
+use Rattle.std.proofs.lemmas.Option.{none-some}
 use Rattle.c_grammar.specs.Input.{Input}
 use Rattle.c_grammar.specs.Reading.{Reading, onward, past, either}
 

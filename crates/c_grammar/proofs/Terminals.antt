@@ -1,6 +1,6 @@
 -- What the next token is, by what was taken, and that something is left behind.
 use denote.Enum.Bare.{sameb, same_true}
-use Rattle.std.proofs.Common.{◌≡◌, ℕ, suc, ◌≤◌, ◌<◌, Bool, true, false, List, [], ◌∷◌, length, Option, Some, None, option_and_then, sym, refl, ap, ◌∙◌, arith}
+use Rattle.std.proofs.Common.{◌≡◌, ℕ, suc, Bool, true, false, List, [], ◌∷◌, length, Some, None, sym, refl, ap, ◌∙◌}
 use Rattle.std.proofs.lemmas.Bool.{false≢true}
 use Rattle.std.proofs.lemmas.Option.{none-some, same_Some}
 use Rattle.c_lexer.specs.declared.token.Token.{Token}
@@ -14,12 +14,12 @@ use Rattle.c_grammar.specs.declared.names.NameEntry.{NameEntry}
 use Rattle.c_lexer.specs.declared.keyword.Keyword.TheVariants as words
 use Rattle.c_grammar.specs.Names.{Word, TypedefName, HeaderName, OperationName, OrdinaryName, NoName, word_by as word_by_kind, word_of}
 use Rattle.c_grammar.specs.Marks.{is_mark}
-use Rattle.c_grammar.specs.Input.{Input, Taken, Named, first_of_tokens, next, taken_if, mark, is_identifier, name_of, identifier}
+use Rattle.c_grammar.specs.Input.{Input, Taken, Named, first_of_tokens, next, taken_if, mark, is_identifier, identifier}
 use Rattle.c_grammar.specs.Attributes.{ReadText, text_by, string}
 use Rattle.c_grammar.specs.Operators as operators
 use Rattle.c_grammar.specs.Operators.{TakenInfix, Started, infix_by, infix_mark, behind, Start, start_by, start_word, start}
 use Rattle.c_grammar.specs.Specifiers.{TakenWord, TypeStarted, word_by, word, type_by, type_start}
-use Rattle.c_grammar.specs.Reading.{turns, begins_type, is_type, either}
+use Rattle.c_grammar.specs.Reading.{turns, is_type}
 use Rattle.c_grammar.proofs.Steps.{into, into_if}
 
 -- ---- the next token
@@ -118,7 +118,10 @@ unfolding type_start
 begins_as_type from started e = into _ (next from) started e λ taken is found.
     let same = same_Some _ started found in
     record {
-      taken = taken; next = is; start = ap (λ (s : TypeStarted). s.start) same; rest = ap (λ (s : TypeStarted). s.rest) same;
+      taken = taken;
+      next = is;
+      start = ap (λ (s : TypeStarted). s.start) same;
+      rest = ap (λ (s : TypeStarted). s.rest) same;
     }
 
 pub type_start-turns : (from : Input) (started : TypeStarted) → type_start from ≡ Some started → suc (turns started.rest) ≡ turns from
@@ -136,7 +139,8 @@ pub goes_on_by : (from : Input) (found : TakenInfix) → behind from ≡ Some fo
 unfolding behind
 goes_on_by from found e = into _ (next from) found e λ taken is more. into _ (infix_by taken.token.kind) found more λ operator known same.
     record {
-      taken = taken; next = is;
+      taken = taken;
+      next = is;
       operator = known ∙ ap (λ (t : TakenInfix). Some t.operator) (same_Some _ found same);
       rest = ap (λ (t : TakenInfix). t.rest) (same_Some _ found same);
     }
@@ -215,16 +219,18 @@ front_token (token ∷ tokens) names taken e = ap (λ (t : Taken). t.token ∷ t
 
 pub next_is : (p : Punctuator) (from to : Input) → mark p from ≡ Some to → NextIs p from.tokens
 next_is p from to e = let m = marked p from to e in record {
-    token = m.taken.token;
-    others = m.taken.rest.tokens;
-    front = front_token from.tokens from.names m.taken m.next;
-    kind = m.kind;
-  }
+  token = m.taken.token;
+  others = m.taken.rest.tokens;
+  front = front_token from.tokens from.names m.taken m.next;
+  kind = m.kind;
+}
 
 taken_at : (p : Punctuator) (from : Input) → NextIs p from.tokens → (taken : Taken) × (next from ≡ Some taken) × (taken.token.kind ≡ kinds.Punctuator p)
-taken_at p from n =
-    (record { token = n.token; rest = record { tokens = n.others; names = from.names } },
-      ap (λ tokens. first_of_tokens tokens from.names) n.front, n.kind)
+taken_at p from n = (
+  record { token = n.token; rest = record { tokens = n.others; names = from.names } },
+  ap (λ tokens. first_of_tokens tokens from.names) n.front,
+  n.kind,
+)
 
 pub no_mark_at : (p q : Punctuator) (from : Input) → NextIs p from.tokens → sameb punctuator.the_type q p ≡ false → mark q from ≡ None
 unfolding mark

@@ -1,12 +1,11 @@
 -- Words, pointers and what begins a type: what is related is read.
 use denote.Enum.Bare.{sameb, same_true}
-use Rattle.std.proofs.Common.{◌≡◌, ℕ, zero, suc, ◌+◌, ◌≤◌, ◌<◌, ◌==◌, ◌||◌, Bool, true, false, if◌then◌else◌, List, [], ◌∷◌, ◌++◌, length, Option, Some, None, sym, refl, ap, ◌∙◌, subst, arith}
-use Rattle.std.specs.List.{list_any, list_all}
+use Rattle.std.proofs.Common.{◌≡◌, ℕ, zero, suc, ◌≤◌, ◌<◌, ◌||◌, Bool, true, false, List, [], ◌∷◌, Option, Some, None, sym, refl, ap, ◌∙◌, arith}
+use Rattle.std.specs.List.{list_any}
 use Rattle.std.proofs.lemmas.Bool.{false≢true}
 use Rattle.std.proofs.lemmas.Option.{none-some, same_Some}
 use Rattle.c_lexer.specs.declared.keyword.Keyword.{Keyword}
 use Rattle.c_lexer.specs.declared.keyword.Keyword.TheVariants as words
-use Rattle.c_lexer.specs.declared.token.Token.{Token}
 use Rattle.c_lexer.specs.declared.token.TokenKind.{TokenKind}
 use Rattle.c_lexer.specs.declared.token.TokenKind.TheVariants as kinds
 use Rattle.c_lexer.specs.declared.punctuator.Punctuator.{Punctuator}
@@ -24,7 +23,7 @@ use Rattle.c_grammar.specs.Reading.{turns, words_from, pointers_from, pointers, 
 use Rattle.c_grammar.specs.Reading as reading
 use Rattle.std.proofs.lemmas.Option.{some_pair_parts}
 use Rattle.c_grammar.proofs.Steps.{into, into_if, into_onward, into_either}
-use Rattle.c_grammar.proofs.Terminals.{mark-turns, word-turns, no_word_at_mark, Begins, begins, marked, BeginsAsType, begins_as_type}
+use Rattle.c_grammar.proofs.Terminals.{mark-turns, word-turns, no_word_at_mark, begins, marked, begins_as_type}
 
 -- ---- words
 
@@ -51,9 +50,11 @@ words-read {from = from} w ends = words-read_from w ends (suc (turns from)) (ome
 word_by-passes : (test : Keyword → Bool) (kind : TokenKind) (rest : Input) (taken : TakenWord) → types.word_by test kind rest ≡ Some taken
     → (kind ≡ kinds.Keyword taken.word) × (rest ≡ taken.rest) × (test taken.word ≡ true)
 word_by-passes test (kinds.Keyword w) rest taken e = into_if (test w) _ _ taken e
-    (λ passes some. let same = same_Some _ taken some in
-      (ap (λ (t : TakenWord). kinds.Keyword t.word) same, ap (λ (t : TakenWord). t.rest) same,
-        ap (λ (t : TakenWord). test t.word) (sym same) ∙ passes))
+    (λ passes some. let same = same_Some _ taken some in (
+      ap (λ (t : TakenWord). kinds.Keyword t.word) same,
+      ap (λ (t : TakenWord). t.rest) same,
+      ap (λ (t : TakenWord). test t.word) (sym same) ∙ passes,
+    ))
     (λ _ none. absurd (none-some taken none))
 word_by-passes test _ rest taken e = absurd (none-some taken e)
 
@@ -128,7 +129,7 @@ pub modifiers-words : {from : Input} {words : List Keyword} {to : Input} → Wor
 modifiers-words types.Words.none = types.Words.none
 modifiers-words (types.Words.more {from = from} {taken = taken} w others) =
     types.Words.more (word-other is_modifier is_specifier_word from taken w
-      (modifier-specifier taken.word (word-passes is_modifier from taken w))) (modifiers-words others)
+    (modifier-specifier taken.word (word-passes is_modifier from taken w))) (modifiers-words others)
 
 pub modifiers-no_integer : {from : Input} {words : List Keyword} {to : Input} → Words is_modifier from words to → list_any is_integer_word words ≡ false
 modifiers-no_integer types.Words.none = refl
@@ -153,8 +154,14 @@ times-zero w known (x ∷ list) none =
     differs false other parts others = rw (other, others) refl
 
 none_named : (list : List Keyword) → list_any is_integer_word list ≡ false → integer_type list ≡ None
-none_named list none = rw (times-zero words.Char refl list none, times-zero words.Short refl list none, times-zero words.Int refl list none,
-    times-zero words.Long refl list none, times-zero words.Signed refl list none, times-zero words.Unsigned refl list none) refl
+none_named list none = rw (
+  times-zero words.Char refl list none,
+  times-zero words.Short refl list none,
+  times-zero words.Int refl list none,
+  times-zero words.Long refl list none,
+  times-zero words.Signed refl list none,
+  times-zero words.Unsigned refl list none,
+) refl
 
 pub some_named : (list : List Keyword) (type : IntegerType) → integer_type list ≡ Some type → list_any is_integer_word list ≡ true
 some_named list type e = by_flag (list_any is_integer_word list) refl
@@ -181,8 +188,12 @@ pointers-read_from types.Pointers.none no_star ends zero h = absurd (omega (arit
 pointers-read_from types.Pointers.none no_star ends (suc left) h = rw no_star refl
 pointers-read_from (types.Pointers.more m w others) no_star ends zero h = absurd (omega (arith, h))
 pointers-read_from (types.Pointers.more {from = from} {behind = behind} m w others) no_star ends (suc left) h =
-    rw (m, words-read w (no_qualifier others ends), pointers-read_from others no_star ends left
-      (omega (arith, mark-turns _ from behind m, words-turns w))) refl
+    rw (
+      m,
+      words-read w (no_qualifier others ends),
+      pointers-read_from others no_star ends left
+          (omega (arith, mark-turns _ from behind m, words-turns w)),
+    ) refl
 
 pub pointers-read : {from : Input} {count : ℕ} {to : Input} → Pointers from count to → mark marks.Star to ≡ None
     → word is_qualifier to ≡ None → pointers from ≡ Some (count, to)
@@ -228,7 +239,7 @@ no_mark_at_start p from started e known other = none_too (mark p from) λ to m.
     let same = same_Some b.taken n.taken (sym b.next ∙ n.next) in
     let kind : b.taken.token.kind ≡ kinds.Punctuator p = ap (λ (t : Taken). t.token.kind) same ∙ n.kind in
     let begin : start_by (kinds.Punctuator p) (word_of from.names b.taken.token) b.taken.token.text ≡ started.start =
-      ap (λ k. start_by k (word_of from.names b.taken.token) b.taken.token.text) (sym kind) ∙ b.start in
+    ap (λ k. start_by k (word_of from.names b.taken.token) b.taken.token.text) (sym kind) ∙ b.start in
     false≢true (sym other ∙ ap is_start begin ∙ known)
 
 keyword_type : (w : Keyword) → is_specifier_word w ≡ true → is_type (type_keyword w) ≡ true
@@ -278,7 +289,7 @@ pub no_word_at_single : (from : Input) (started : TypeStarted) → type_start fr
 unfolding word
 no_word_at_single from started e known = let b = begins_as_type from started e in
     rw b.next (no_specifier_word b.taken.token.kind (word_of from.names b.taken.token) b.taken.token.text b.taken.rest
-      (ap is_single b.start ∙ known))
+    (ap is_single b.start ∙ known))
 
 -- ---- what is read is related
 
@@ -289,8 +300,8 @@ words-sound_from test zero from list to e = absurd (none-some _ e)
 words-sound_from test (suc left) from list to e = into_either (word test from) _ _ _ e
     (λ none same. let parts = some_pair_parts [] list from to same in rw (← parts.0, ← parts.1) types.Words.none)
     (λ taken w found. into_onward (words_from test left taken.rest) _ _ found λ others end known same.
-      let parts = some_pair_parts (taken.word ∷ others) list end to same in
-      rw (← parts.0, ← parts.1) (types.Words.more w (words-sound_from test left taken.rest others end known)))
+    let parts = some_pair_parts (taken.word ∷ others) list end to same in
+    rw (← parts.0, ← parts.1) (types.Words.more w (words-sound_from test left taken.rest others end known)))
 
 pub words-sound : (test : Keyword → Bool) (from : Input) (words : List Keyword) (to : Input)
     → reading.words test from ≡ Some (words, to) → Words test from words to
@@ -303,10 +314,10 @@ pointers-sound_from zero from count to e = absurd (none-some _ e)
 pointers-sound_from (suc left) from count to e = into_either (mark marks.Star from) _ _ _ e
     (λ none same. let parts = some_pair_parts 0 count from to same in rw (← parts.0, ← parts.1) types.Pointers.none)
     (λ inner m found. into_onward (reading.words is_qualifier inner) _ _ found λ qualifiers rest w more.
-      into_onward (pointers_from left rest) _ _ more λ less end known same.
-      let parts = some_pair_parts (suc less) count end to same in
-      rw (← parts.0, ← parts.1) (types.Pointers.more m (words-sound is_qualifier inner qualifiers rest w)
-        (pointers-sound_from left rest less end known)))
+    into_onward (pointers_from left rest) _ _ more λ less end known same.
+    let parts = some_pair_parts (suc less) count end to same in
+    rw (← parts.0, ← parts.1) (types.Pointers.more m (words-sound is_qualifier inner qualifiers rest w)
+    (pointers-sound_from left rest less end known)))
 
 pub pointers-sound : (from : Input) (count : ℕ) (to : Input) → pointers from ≡ Some (count, to) → Pointers from count to
 unfolding pointers
@@ -319,4 +330,4 @@ words-modifiers types.Words.none none = types.Words.none
 words-modifiers (types.Words.more {from = from} {taken = taken} {words = others} w behind) none =
     let parts = either_false (is_integer_word taken.word) (list_any is_integer_word others) none in
     types.Words.more (word-other is_specifier_word is_modifier from taken w
-      (specifier-modifier taken.word (word-passes is_specifier_word from taken w) parts.0)) (words-modifiers behind parts.1)
+    (specifier-modifier taken.word (word-passes is_specifier_word from taken w) parts.0)) (words-modifiers behind parts.1)

@@ -1,5 +1,5 @@
 -- How declarations are read, from the left to the right (inner), with the reader of expressions.
-use Rattle.std.specs.Prelude.{◌≡◌, ℕ, zero, suc, Bool, true, false, not, ◌&&◌, List, [], ◌∷◌, ◌++◌, Option, Some, None, if◌then◌else◌}
+use Rattle.std.specs.Prelude.{ℕ, zero, suc, Bool, true, false, List, [], ◌∷◌, ◌++◌, Option, Some, None, if◌then◌else◌}
 use Rattle.std.specs.Prelude.{option_and_then}
 use Rattle.std.specs.List.{list_all, list_any, filter}
 use Rattle.c_lexer.specs.declared.keyword.Keyword.{Keyword}
@@ -34,7 +34,7 @@ unfoldable pub specified_with : Reader TypeSpecifier → Reader (List Keyword ×
 specified_with single from = onward (words is_specifier_word from) λ before rest. if list_any is_integer_word before
     then option_and_then (λ type. Some ((filter is_modifier before, specifiers.Integer type), rest)) (integer_type before)
     else (onward (single rest) λ specifier behind. onward (words is_modifier behind) λ after to.
-      Some ((before ++ after, specifier), to))
+    Some ((before ++ after, specifier), to))
 
 abbrev pub is_void_start : TypeStart → Bool
 is_void_start types.Void = true
@@ -61,10 +61,12 @@ module _ (expression : ℕ → Reader Expr) where
   unfoldable pub parameter_behind : TypeSpecifier → Reader Parameter
   parameter_behind specifier from = onward (pointers from) λ count rest. either (identifier rest)
       (onward (lengths expression rest) λ lengths to.
-        Some (record { specifier = specifier; declarator = unnamed_parameter count lengths }, to))
+      Some (record { specifier = specifier; declarator = unnamed_parameter count lengths }, to))
       (λ named. onward (declared_behind count named.name named.rest) λ tree to.
-        Some (record { specifier = specifier; declarator = parameters.Named tree.0 },
-          declares to tree.1.text names.Ordinary))
+      Some (
+        record { specifier = specifier; declarator = parameters.Named tree.0 },
+        declares to tree.1.text names.Ordinary,
+      ))
 
   unfoldable pub parameter : Reader Parameter
   parameter from = onward (specified expression from) λ type rest. if list_all is_qualifier type.0
@@ -110,7 +112,7 @@ module _ (expression : ℕ → Reader Expr) where
       either (mark marks.OpenParenthesis named.rest)
       (onward (declared_behind count named.name named.rest) λ tree behind. object_behind tree.0 tree.1 behind)
       (λ inner. onward (function_behind count named.name inner) λ function to.
-        Some (declarators.Function function, behind_function from function to))) (identifier rest)
+      Some (declarators.Function function, behind_function from function to))) (identifier rest)
 
   unfoldable pub initialized_names_from : ℕ → Reader (List InitDeclarator)
   initialized_names_from zero from = None
@@ -122,7 +124,7 @@ module _ (expression : ℕ → Reader Expr) where
   unfoldable pub local_behind : List Keyword → TypeSpecifier → Reader Declaration
   local_behind modifiers specifier rest = if is_typedef modifiers
       then (if agrees modifiers then (onward (typedef_names_from (turns rest) rest) λ list to.
-        Some (declaration specifier (kinds.Typedef list), to)) else None)
+      Some (declaration specifier (kinds.Typedef list), to)) else None)
       else either (mark marks.Semicolon rest)
       (onward (initialized_names_from (turns rest) rest) λ list to. Some (declaration specifier (kinds.Names list), to))
       (λ to. if declares_tag specifier then Some (declaration specifier kinds.TypeOnly, to) else None)
@@ -144,7 +146,7 @@ module _ (expression : ℕ → Reader Expr) where
     unfoldable pub members_behind : List Attribute → TypeSpecifier → Reader MemberDeclaration
     members_behind attributes specifier rest = either (mark marks.Semicolon rest)
         (onward (member_names_from (turns rest) rest) λ list to.
-          Some (member_declaration attributes specifier list, to))
+        Some (member_declaration attributes specifier list, to))
         (λ to. if declares_tag specifier then Some (member_declaration attributes specifier [], to) else None)
 
     unfoldable pub member : Reader MemberDeclaration
@@ -162,7 +164,7 @@ module _ (expression : ℕ → Reader Expr) where
     record_behind kind attributes tag rest = either (mark marks.OpenBrace rest)
         (Some (specifiers.Record kind attributes tag, rest))
         (λ inner. onward (members_from (turns inner) inner) λ list to.
-          Some (specifiers.RecordDefinition (definition kind attributes tag list), to))
+        Some (specifiers.RecordDefinition (definition kind attributes tag list), to))
 
     unfoldable pub record_or_definition : RecordKind → Reader TypeSpecifier
     record_or_definition kind outer = onward (attributes outer) λ list rest. option_and_then (λ named.

@@ -1,6 +1,6 @@
 -- Declarations, by the productions of C11 (annex A.2.2), as the profile has them.
-use Rattle.std.specs.Prelude.{◌≡◌, ℕ, ◌+◌, ◌==◌, nat_le, Bool, true, false, ◌&&◌, List, [], ◌∷◌, ◌++◌, Option, Some, None, IsTrue, if◌then◌else◌}
-use Rattle.std.specs.List.{list_all, list_any, filter}
+use Rattle.std.specs.Prelude.{◌≡◌, ℕ, ◌+◌, ◌==◌, nat_le, Bool, true, false, ◌&&◌, List, [], ◌∷◌, ◌++◌, Some, None, IsTrue}
+use Rattle.std.specs.List.{list_all}
 use Rattle.c_lexer.specs.declared.keyword.Keyword.{Keyword}
 use Rattle.c_lexer.specs.declared.keyword.Keyword.TheVariants as words
 use Rattle.c_lexer.specs.declared.punctuator.Punctuator.TheVariants as marks
@@ -11,7 +11,7 @@ use Rattle.c_syntax.specs.declared.declaration.DeclarationKind.{DeclarationKind}
 use Rattle.c_syntax.specs.declared.declaration.DeclarationKind.TheVariants as kinds
 use Rattle.c_syntax.specs.declared.declaration.InitDeclarator.{InitDeclarator}
 use Rattle.c_syntax.specs.declared.declaration.InitDeclarator.TheVariants as declarators
-use Rattle.c_syntax.specs.declared.declarator.AbstractDeclarator.{AbstractDeclarator, roll-AbstractDeclarator, out-AbstractDeclarator}
+use Rattle.c_syntax.specs.declared.declarator.AbstractDeclarator.{roll-AbstractDeclarator, out-AbstractDeclarator}
 use Rattle.c_syntax.specs.declared.declarator.Declarator.{Declarator, roll-Declarator}
 use Rattle.c_syntax.specs.declared.declarator.FunctionDeclarator.{FunctionDeclarator}
 use Rattle.c_syntax.specs.declared.declarator.Parameter.{Parameter}
@@ -25,7 +25,6 @@ use Rattle.c_syntax.specs.declared.specifier.TypeSpecifier.{TypeSpecifier, out-T
 use Rattle.c_syntax.specs.declared.specifier.TypeSpecifier.TheVariants as specifiers
 use Rattle.c_syntax.specs.declared.expr.Expr.{Expr}
 use Rattle.c_syntax.specs.declared.expr.ExprKind.TheOpen.{TypeSpecifier-F, AbstractDeclarator-F}
-use Rattle.c_grammar.specs.declared.names.NameKind.{NameKind}
 use Rattle.c_grammar.specs.declared.names.NameKind.TheVariants as names
 use Rattle.c_grammar.specs.Input.{Input, Named, mark, identifier, declares}
 use Rattle.c_grammar.specs.Attributes.{Attributes}

@@ -23,7 +23,6 @@ enumerator_depth = fold-Enumerator ℕ ℕ (ℕ → ℕ) (ℕ → ℕ) ℕ ℕ �
     (λ name. name.declarator name.specifier) (λ definition. deepest definition.enumerators)
     (λ enumerator. unwrap_or enumerator.value 0) members_step (λ definition. deepest definition.members)
 
-
 -- the depth of members of one type
 abbrev pub member_depth : MemberDeclaration → ℕ
 member_depth = fold-MemberDeclaration ℕ ℕ (ℕ → ℕ) (ℕ → ℕ) ℕ ℕ ℕ ℕ ℕ ℕ

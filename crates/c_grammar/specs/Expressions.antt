@@ -1,32 +1,28 @@
 -- Expressions and the types that stand in them, by the productions of C11 (annex A.2.1 and A.2.2). Each relation is
 -- between what is left before, the tree, and what is left behind it.
-use Rattle.std.specs.Prelude.{◌≡◌, ℕ, suc, ◌+◌, List, [], ◌∷◌, ◌++◌, Option, Some, None}
+use Rattle.std.specs.Prelude.{◌≡◌, ℕ, suc, ◌+◌, List, [], ◌∷◌, ◌++◌, Some, None}
 use Rattle.std.specs.List.{list_all, filter}
-use Rattle.std.specs.Prelude.{Bool, true, IsTrue}
+use Rattle.std.specs.Prelude.{IsTrue}
 use Rattle.rc_text.specs.declared.place.Place.{Place}
 use Rattle.c_lexer.specs.declared.keyword.Keyword.{Keyword}
-use Rattle.c_lexer.specs.declared.keyword.Keyword.TheVariants as words
-use Rattle.c_lexer.specs.declared.token.Token.{Token}
 use Rattle.c_lexer.specs.declared.token.IntegerConstant.{IntegerConstant}
 use Rattle.c_lexer.specs.declared.token.CharacterConstant.{CharacterConstant}
 use Rattle.c_lexer.specs.declared.header_type.HeaderType.{HeaderType}
 use Rattle.c_lexer.specs.declared.atomic_operation.AtomicOperation.{AtomicOperation}
 use Rattle.c_lexer.specs.declared.punctuator.Punctuator.TheVariants as marks
 use Rattle.c_syntax.specs.declared.attribute.Attribute.{Attribute}
-use Rattle.c_syntax.specs.declared.name.Name.{Name}
 use Rattle.c_syntax.specs.declared.operator.IncrementOperator.{IncrementOperator}
 use Rattle.c_syntax.specs.declared.operator.UnaryOperator.{UnaryOperator}
 use Rattle.c_syntax.specs.declared.operator.BinaryOperator.{BinaryOperator}
 use Rattle.c_syntax.specs.declared.operator.LogicalOperator.{LogicalOperator}
 use Rattle.c_syntax.specs.declared.operator.AssignmentOperator.{AssignmentOperator}
 use Rattle.c_syntax.specs.declared.specifier.IntegerType.{IntegerType}
-use Rattle.c_syntax.specs.declared.specifier.RecordKind.{RecordKind}
 use Rattle.c_syntax.specs.declared.specifier.RecordKind.TheVariants as records
 use Rattle.c_syntax.specs.declared.specifier.TypeSpecifier.{TypeSpecifier}
 use Rattle.c_syntax.specs.declared.specifier.TypeSpecifier.TheVariants as specifiers
-use Rattle.c_syntax.specs.declared.specifier.EnumDefinition.{EnumDefinition, roll-EnumDefinition}
+use Rattle.c_syntax.specs.declared.specifier.EnumDefinition.{roll-EnumDefinition}
 use Rattle.c_syntax.specs.declared.specifier.Enumerator.{Enumerator, roll-Enumerator}
-use Rattle.c_syntax.specs.declared.declarator.AbstractDeclarator.{AbstractDeclarator, roll-AbstractDeclarator}
+use Rattle.c_syntax.specs.declared.declarator.AbstractDeclarator.{roll-AbstractDeclarator}
 use Rattle.c_syntax.specs.declared.expr.Expr.{Expr}
 use Rattle.c_syntax.specs.declared.expr.ExprKind.{ExprKind}
 use Rattle.c_syntax.specs.declared.expr.ExprKind.TheVariants as kinds
@@ -58,9 +54,9 @@ BeginsType from begin rest = types.type_start from ≡ Some (record { start = be
 -- a type's name with its `*`s and array lengths
 abbrev pub type_name : TypeSpecifier → ℕ → List Expr → TypeName
 type_name specifier pointers lengths = roll-TypeName (record {
-    specifier = specifier;
-    declarator = roll-AbstractDeclarator (record { pointers = pointers; lengths = lengths });
-  })
+  specifier = specifier;
+  declarator = roll-AbstractDeclarator (record { pointers = pointers; lengths = lengths });
+})
 
 mutual
   -- expressions of each category (6.5)
@@ -233,12 +229,18 @@ mutual
         → Attributes outer attributes behind → identifier behind ≡ Some tag → mark marks.OpenBrace tag.rest ≡ Some inner
         → Enumerators inner enumerators to
         → SingleType from (specifiers.EnumDefinition (roll-EnumDefinition (record {
-            attributes = attributes; tag = Some tag.name; enumerators = enumerators }))) to
+          attributes = attributes;
+          tag = Some tag.name;
+          enumerators = enumerators;
+        }))) to
     untagged_enumeration : {from outer : Input} {attributes : List Attribute} {behind inner : Input}
         {enumerators : List Enumerator} {to : Input} → BeginsType from types.Enum outer
         → Attributes outer attributes behind → mark marks.OpenBrace behind ≡ Some inner → Enumerators inner enumerators to
         → SingleType from (specifiers.EnumDefinition (roll-EnumDefinition (record {
-            attributes = attributes; tag = None; enumerators = enumerators }))) to
+          attributes = attributes;
+          tag = None;
+          enumerators = enumerators;
+        }))) to
 
   -- enumerator-list with the closing brace, perhaps with a comma before it
   pub data Enumerators : Input → List Enumerator → Input → Type 0 where

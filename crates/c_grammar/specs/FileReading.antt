@@ -1,12 +1,11 @@
 -- How files are read, from the left to the right (inner): what the grammar relates is what this finds.
-use Rattle.std.specs.Prelude.{◌≡◌, ℕ, zero, suc, nat_le, Bool, true, false, List, [], ◌∷◌, length, Option, Some, None, if◌then◌else◌}
+use Rattle.std.specs.Prelude.{ℕ, zero, suc, nat_le, List, [], ◌∷◌, length, Option, Some, None, if◌then◌else◌}
 use Rattle.std.specs.Prelude.{option_and_then, option_map}
 use Rattle.std.specs.List.{list_all}
 use Rattle.rc_text.specs.declared.place.Place.{Place}
 use Rattle.c_lexer.specs.TokenLists.{TokenLists}
 use Rattle.c_lexer.specs.declared.keyword.Keyword.{Keyword}
 use Rattle.c_lexer.specs.declared.punctuator.Punctuator.TheVariants as marks
-use Rattle.c_syntax.specs.declared.attribute.Attribute.{Attribute}
 use Rattle.c_syntax.specs.declared.declaration.DeclarationKind.TheVariants as kinds
 use Rattle.c_syntax.specs.declared.declaration.InitDeclarator.TheVariants as declarators
 use Rattle.c_syntax.specs.declared.declarator.FunctionDeclarator.{FunctionDeclarator}
@@ -31,25 +30,30 @@ module _ (limit : ℕ) where
   unfoldable pub function_body : TypeSpecifier → FunctionDeclarator → Input → Place → Reader ItemKind
   function_body specifier tree behind place start =
       onward (children_from (nested limit limit).expression (kind_at (nested limit limit).expression limit) outermost
-        (turns start) start) λ children to.
-      Some (items.Function (record {
-          specifier = specifier; declarator = tree; body = bare_statement place (statements.Compound children);
-        }), behind_function behind tree to)
+      (turns start) start) λ children to.
+      Some (
+        items.Function (record {
+          specifier = specifier;
+          declarator = tree;
+          body = bare_statement place (statements.Compound children);
+        }),
+        behind_function behind tree to,
+      )
 
   -- a function with a body
   unfoldable pub defined : TypeSpecifier → FunctionDeclarator → Input → Input → Reader ItemKind
   defined specifier tree behind inner start = if list_all (λ parameter. is_named parameter.declarator) tree.parameters
       then option_and_then (λ place. function_body specifier tree behind place start)
-        (place_of (declares inner tree.name.text names.Ordinary))
+      (place_of (declares inner tree.name.text names.Ordinary))
       else None
 
   -- functions without bodies, behind the first
   unfoldable pub functions_behind : TypeSpecifier → FunctionDeclarator → Reader ItemKind
   functions_behind specifier tree after = either (mark marks.Comma after)
       (past (mark marks.Semicolon after) λ to.
-        Some (items.Declaration (declaration specifier (kinds.Names (declarators.Function tree ∷ []))), to))
+      Some (items.Declaration (declaration specifier (kinds.Names (declarators.Function tree ∷ []))), to))
       (λ inner. onward (function_names_from (nested limit limit).expression (turns inner) inner) λ others to.
-        Some (items.Declaration (declaration specifier (kinds.Names (declarators.Function tree ∷ others))), to))
+      Some (items.Declaration (declaration specifier (kinds.Names (declarators.Function tree ∷ others))), to))
 
   unfoldable pub functions : TypeSpecifier → Reader ItemKind
   functions specifier behind = onward (function_declared (nested limit limit).expression behind) λ tree inner.
@@ -61,7 +65,7 @@ module _ (limit : ℕ) where
   unfoldable pub item_behind : List Keyword → TypeSpecifier → Reader ItemKind
   item_behind modifiers specifier behind = if is_typedef modifiers
       then (onward (typedef_names_from (nested limit limit).expression (turns behind) behind) λ list to.
-        Some (items.Declaration (declaration specifier (kinds.Typedef list)), to))
+      Some (items.Declaration (declaration specifier (kinds.Typedef list)), to))
       else either (mark marks.Semicolon behind) (functions specifier behind)
       (λ to. if declares_tag specifier then Some (items.Declaration (declaration specifier kinds.TypeOnly), to) else None)
 
@@ -78,8 +82,8 @@ module _ (limit : ℕ) where
   items_from zero from = None
   items_from (suc left) from = either (next from) (Some [])
       (λ _. onward (attributes from) λ list start. option_and_then (λ place. onward (item start) λ kind rest.
-        option_map (λ others. record { place = place; attributes = list; kind = kind } ∷ others) (items_from left rest))
-        (place_of start))
+      option_map (λ others. record { place = place; attributes = list; kind = kind } ∷ others) (items_from left rest))
+      (place_of start))
 
   -- the file's tree
   unfoldable pub unit_of : TokenLists → Option unit.Unit

@@ -8,14 +8,12 @@ use Rattle.c_lexer.specs.declared.punctuator.Punctuator.TheVariants as marks
 use Rattle.c_syntax.specs.declared.attribute.Attribute.{Attribute}
 use Rattle.c_syntax.specs.declared.declaration.Declaration.{Declaration}
 use Rattle.c_syntax.specs.declared.declarator.FunctionDeclarator.{FunctionDeclarator}
-use Rattle.c_syntax.specs.declared.declarator.Parameter.{Parameter}
 use Rattle.c_syntax.specs.declared.declarator.ParameterDeclarator.{ParameterDeclarator}
 use Rattle.c_syntax.specs.declared.declarator.ParameterDeclarator.TheVariants as parameters
 use Rattle.c_syntax.specs.declared.specifier.TypeSpecifier.{TypeSpecifier}
 use Rattle.c_syntax.specs.declared.stmt.Stmt.{Stmt}
 use Rattle.c_syntax.specs.declared.stmt.StmtKind.{StmtKind}
 use Rattle.c_syntax.specs.declared.stmt.StmtKind.TheVariants as statements
-use Rattle.c_syntax.specs.declared.unit.FunctionDefinition.{FunctionDefinition}
 use Rattle.c_syntax.specs.declared.unit.Item.{Item}
 use Rattle.c_syntax.specs.declared.unit.ItemKind.{ItemKind}
 use Rattle.c_syntax.specs.declared.unit.ItemKind.TheVariants as items
@@ -23,8 +21,8 @@ use Rattle.c_syntax.specs.declared.unit.Unit as unit
 use Rattle.c_grammar.specs.declared.names.NameKind.TheVariants as names
 use Rattle.c_grammar.specs.Input.{Input, next, mark, declares}
 use Rattle.c_grammar.specs.Attributes.{Attributes}
-use Rattle.c_grammar.specs.Declarations.{Defining, FunctionDeclared, FileDeclaration, agrees, is_typedef, under, behind_function}
-use Rattle.c_grammar.specs.Statements.{Position, outermost, place_of, Children}
+use Rattle.c_grammar.specs.Declarations.{Defining, FunctionDeclared, FileDeclaration, agrees, is_typedef, behind_function}
+use Rattle.c_grammar.specs.Statements.{outermost, place_of, Children}
 
 -- whether a parameter has a name, as each of a function with a body has
 abbrev pub is_named : ParameterDeclarator → Bool
@@ -49,7 +47,7 @@ pub data ItemKindRead : Input → ItemKind → Input → Type 0 where
       → IsTrue (list_all (λ parameter. is_named parameter.declarator) tree.parameters)
       → Body (declares inner tree.name.text names.Ordinary) block to
       → ItemKindRead from
-        (items.Function (record { specifier = specifier; declarator = tree; body = block })) (behind_function behind tree to)
+      (items.Function (record { specifier = specifier; declarator = tree; body = block })) (behind_function behind tree to)
   declaration : {from : Input} {tree : Declaration} {to : Input} → FileDeclaration from tree to
       → ItemKindRead from (items.Declaration tree) to
 

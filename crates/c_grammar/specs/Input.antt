@@ -4,12 +4,10 @@ use Rattle.c_lexer.specs.declared.token.Token.{Token}
 use Rattle.c_lexer.specs.declared.token.TokenKind.{TokenKind}
 use Rattle.c_lexer.specs.declared.token.TokenKind.TheVariants as kinds
 use Rattle.c_lexer.specs.declared.punctuator.Punctuator.{Punctuator}
-use Rattle.c_lexer.specs.declared.keyword.Keyword.{Keyword}
 use Rattle.c_syntax.specs.declared.name.Name.{Name}
 use Rattle.c_grammar.specs.declared.names.NameKind.{NameKind}
 use Rattle.c_grammar.specs.declared.names.NameEntry.{NameEntry}
-use Rattle.c_grammar.specs.Names.{Word, word_of}
-use Rattle.c_grammar.specs.Marks.{is_mark, is_keyword}
+use Rattle.c_grammar.specs.Marks.{is_mark}
 
 -- what is left to be read, and the names in scope there
 pub record Input : Type 0 where
@@ -60,7 +58,7 @@ name_of token = record { place = token.place; text = token.text }
 unfoldable pub identifier : Input → Option Named
 identifier input =
     option_and_then (λ taken. if is_identifier taken.token.kind
-        then Some (record { name = name_of taken.token; rest = taken.rest }) else None) (next input)
+    then Some (record { name = name_of taken.token; rest = taken.rest }) else None) (next input)
 
 -- the same tokens with one more name in scope
 abbrev pub declares : Input → List ℕ → NameKind → Input

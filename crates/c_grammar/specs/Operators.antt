@@ -1,7 +1,6 @@
 -- What begins an expression and what goes on with one: by the tokens, and how tightly each binds (C11 6.5, annex A.2.1).
-use Rattle.std.specs.Prelude.{ℕ, ◌+◌, List, [], ◌∷◌, Option, Some, None, option_and_then}
+use Rattle.std.specs.Prelude.{ℕ, ◌+◌, List, Option, Some, None, option_and_then}
 use Rattle.rc_text.specs.declared.place.Place.{Place}
-use Rattle.c_lexer.specs.declared.token.Token.{Token}
 use Rattle.c_lexer.specs.declared.token.TokenKind.{TokenKind}
 use Rattle.c_lexer.specs.declared.token.TokenKind.TheVariants as kinds
 use Rattle.c_lexer.specs.declared.token.IntegerConstant.{IntegerConstant}
@@ -20,21 +19,25 @@ use Rattle.c_syntax.specs.declared.operator.LogicalOperator.{LogicalOperator}
 use Rattle.c_syntax.specs.declared.operator.LogicalOperator.TheVariants as logical
 use Rattle.c_syntax.specs.declared.operator.AssignmentOperator.{AssignmentOperator}
 use Rattle.c_syntax.specs.declared.operator.AssignmentOperator.TheVariants as assignment
-use Rattle.c_grammar.specs.declared.names.NameEntry.{NameEntry}
 use Rattle.c_grammar.specs.Names.{Word, TypedefName, HeaderName, OperationName, OrdinaryName, NoName, word_of}
-use Rattle.c_grammar.specs.Input.{Input, Taken, next}
+use Rattle.c_grammar.specs.Input.{Input, next}
 
 -- The syntactic categories of expressions, by how tightly their operators bind: each is one of all looser ones.
 abbrev pub comma_level : ℕ
 comma_level = 0
+
 abbrev pub assignment_level : ℕ
 assignment_level = 1
+
 abbrev pub conditional_level : ℕ
 conditional_level = 2
+
 abbrev pub cast_level : ℕ
 cast_level = 13
+
 abbrev pub unary_level : ℕ
 unary_level = 14
+
 abbrev pub postfix_level : ℕ
 postfix_level = 15
 
@@ -203,7 +206,7 @@ pub record Started : Type 0 where
 -- what the next token is as the first one of an expression
 unfoldable pub start : Input → Option Started
 start input = option_and_then (λ taken. Some (record {
-    start = start_by taken.token.kind (word_of input.names taken.token) taken.token.text;
-    place = taken.token.place;
-    rest = taken.rest;
-  })) (next input)
+  start = start_by taken.token.kind (word_of input.names taken.token) taken.token.text;
+  place = taken.token.place;
+  rest = taken.rest;
+})) (next input)

@@ -1,32 +1,27 @@
 -- How expressions are read, from the left to the right (inner): what the grammar relates is what this finds.
-use Rattle.std.specs.Prelude.{◌≡◌, ℕ, zero, suc, ◌+◌, Bool, true, false, ◌&&◌, nat_le, List, [], ◌∷◌, ◌++◌, length, Option, Some, None, if◌then◌else◌}
+use Rattle.std.specs.Prelude.{ℕ, zero, suc, ◌+◌, Bool, true, false, ◌&&◌, nat_le, List, [], ◌∷◌, ◌++◌, length, Option, Some, None, if◌then◌else◌}
 use Rattle.std.specs.Prelude.{option_and_then}
 use Rattle.std.specs.List.{list_all, list_any, filter}
 use Rattle.rc_text.specs.declared.place.Place.{Place}
 use Rattle.c_lexer.specs.declared.keyword.Keyword.{Keyword}
-use Rattle.c_lexer.specs.declared.token.Token.{Token}
-use Rattle.c_lexer.specs.declared.token.TokenKind.{TokenKind}
-use Rattle.c_lexer.specs.declared.token.TokenKind.TheVariants as tokens
 use Rattle.c_lexer.specs.declared.punctuator.Punctuator.TheVariants as marks
 use Rattle.c_syntax.specs.declared.attribute.Attribute.{Attribute}
 use Rattle.c_syntax.specs.declared.attribute.AttributeText.{AttributeText}
 use Rattle.c_syntax.specs.declared.name.Name.{Name}
-use Rattle.c_syntax.specs.declared.specifier.IntegerType.{IntegerType}
 use Rattle.c_syntax.specs.declared.specifier.RecordKind.{RecordKind}
 use Rattle.c_syntax.specs.declared.specifier.RecordKind.TheVariants as records
 use Rattle.c_syntax.specs.declared.specifier.TypeSpecifier.{TypeSpecifier}
 use Rattle.c_syntax.specs.declared.specifier.TypeSpecifier.TheVariants as specifiers
-use Rattle.c_syntax.specs.declared.specifier.EnumDefinition.{EnumDefinition, roll-EnumDefinition}
+use Rattle.c_syntax.specs.declared.specifier.EnumDefinition.{roll-EnumDefinition}
 use Rattle.c_syntax.specs.declared.specifier.Enumerator.{Enumerator, roll-Enumerator}
 use Rattle.c_syntax.specs.declared.expr.Expr.{Expr}
 use Rattle.c_syntax.specs.declared.expr.ExprKind.{ExprKind}
 use Rattle.c_syntax.specs.declared.expr.ExprKind.TheVariants as kinds
 use Rattle.c_syntax.specs.declared.expr.TypeName.{TypeName}
 use Rattle.c_syntax.specs.Depth.{expression_depth}
-use Rattle.c_grammar.specs.declared.names.NameEntry.{NameEntry}
 use Rattle.c_grammar.specs.declared.names.NameKind.TheVariants as names
-use Rattle.c_grammar.specs.Input.{Input, Named, mark, identifier, declares}
-use Rattle.c_grammar.specs.Attributes.{ReadText, string, kept}
+use Rattle.c_grammar.specs.Input.{Input, mark, identifier, declares}
+use Rattle.c_grammar.specs.Attributes.{string, kept}
 use Rattle.c_grammar.specs.Operators as operators
 use Rattle.c_grammar.specs.Operators.{Start, start, behind, comma_level, assignment_level, conditional_level, cast_level, unary_level, postfix_level, binary_level, logical_level, level_of, left_level}
 use Rattle.c_grammar.specs.Specifiers as types
@@ -78,7 +73,7 @@ unfoldable pub single : Reader (List Attribute)
 single from = option_and_then (λ first. either (mark marks.DoubleColon first.rest)
     (onward (clause first.rest) λ texts to. Some ([], to))
     (λ inner. option_and_then (λ second. onward (clause second.rest) λ texts to.
-        Some (kept first.name second.name texts, to)) (identifier inner))) (identifier from)
+    Some (kept first.name second.name texts, to)) (identifier inner))) (identifier from)
 
 unfoldable pub group_from : ℕ → Reader (List Attribute)
 group_from zero from = None
@@ -136,25 +131,35 @@ module _ (expression : ℕ → Reader Expr) where
 
   unfoldable pub constant : Reader Enumerator
   constant from = option_and_then (λ named. either (mark marks.Assign named.rest)
-      (Some (roll-Enumerator (record { name = named.name; value = None }),
-        declares named.rest named.name.text names.Ordinary))
+      (Some (
+        roll-Enumerator (record { name = named.name; value = None }),
+        declares named.rest named.name.text names.Ordinary,
+      ))
       (λ inner. onward (expression conditional_level inner) λ value rest.
-        Some (roll-Enumerator (record { name = named.name; value = Some value }),
-          declares rest named.name.text names.Ordinary))) (identifier from)
+      Some (
+        roll-Enumerator (record { name = named.name; value = Some value }),
+        declares rest named.name.text names.Ordinary,
+      ))) (identifier from)
 
   unfoldable pub enumerators_from : ℕ → Reader (List Enumerator)
   enumerators_from zero from = None
   enumerators_from (suc left) from = onward (constant from) λ one rest. either (mark marks.Comma rest)
       (past (mark marks.CloseBrace rest) λ to. Some (one ∷ [], to))
       (λ inner. either (mark marks.CloseBrace inner)
-        (onward (enumerators_from left inner) λ others to. Some (one ∷ others, to))
-        (λ to. Some (one ∷ [], to)))
+      (onward (enumerators_from left inner) λ others to. Some (one ∷ others, to))
+      (λ to. Some (one ∷ [], to)))
 
   -- behind the opening brace
   unfoldable pub enumeration : List Attribute → Option Name → Reader TypeSpecifier
   enumeration attributes tag inner = onward (enumerators_from (turns inner) inner) λ enumerators to.
-      Some (specifiers.EnumDefinition (roll-EnumDefinition (record {
-        attributes = attributes; tag = tag; enumerators = enumerators })), to)
+      Some (
+        specifiers.EnumDefinition (roll-EnumDefinition (record {
+          attributes = attributes;
+          tag = tag;
+          enumerators = enumerators;
+        })),
+        to,
+      )
 
   -- behind the tag
   unfoldable pub tagged : List Attribute → Name → Reader TypeSpecifier
@@ -188,12 +193,12 @@ module _ (expression : ℕ → Reader Expr) where
   specified from = onward (words is_specifier_word from) λ before rest. if list_any is_integer_word before
       then option_and_then (λ type. Some ((filter is_modifier before, specifiers.Integer type), rest)) (integer_type before)
       else (onward (single_type rest) λ specifier behind. onward (words is_modifier behind) λ after to.
-        Some ((before ++ after, specifier), to))
+      Some ((before ++ after, specifier), to))
 
   unfoldable pub type_named : Reader TypeName
   type_named from = onward (specified from) λ type rest. if list_all is_qualifier type.0
       then (onward (pointers rest) λ count inner. onward (lengths inner) λ lengths to.
-        Some (type_name type.1 count lengths, to))
+      Some (type_name type.1 count lengths, to))
       else None
 
 -- ---- expressions
@@ -335,6 +340,6 @@ no_nested = record { expression = λ level from. None; type_name = λ from. None
 unfoldable pub nested : ℕ → ℕ → Nested
 nested limit zero = no_nested
 nested limit (suc room) = record {
-    expression = expression_with limit (nested limit room);
-    type_name = type_named (nested limit room).expression;
-  }
+  expression = expression_with limit (nested limit room);
+  type_name = type_named (nested limit room).expression;
+}

@@ -5,7 +5,6 @@ use Rattle.std.specs.Prelude.{option_and_then}
 use Rattle.std.specs.List.{list_all}
 use Rattle.c_lexer.specs.declared.keyword.Keyword.{Keyword}
 use Rattle.c_lexer.specs.declared.keyword.Keyword.TheVariants as words
-use Rattle.c_lexer.specs.declared.token.Token.{Token}
 use Rattle.c_lexer.specs.declared.token.TokenKind.{TokenKind}
 use Rattle.c_lexer.specs.declared.token.TokenKind.TheVariants as kinds
 use Rattle.c_lexer.specs.declared.punctuator.Punctuator.TheVariants as marks
@@ -171,6 +170,6 @@ pub record TypeStarted : Type 0 where
 -- what the next token is as the first one of a type
 unfoldable pub type_start : Input → Option TypeStarted
 type_start input = option_and_then (λ taken. Some (record {
-    start = type_by taken.token.kind (word_of input.names taken.token) taken.token.text;
-    rest = taken.rest;
-  })) (next input)
+  start = type_by taken.token.kind (word_of input.names taken.token) taken.token.text;
+  rest = taken.rest;
+})) (next input)

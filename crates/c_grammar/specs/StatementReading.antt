@@ -1,5 +1,5 @@
 -- How statements are read, from the left to the right (inner), with the reader of expressions.
-use Rattle.std.specs.Prelude.{◌≡◌, ℕ, zero, suc, Bool, true, false, List, [], ◌∷◌, Option, Some, None, if◌then◌else◌}
+use Rattle.std.specs.Prelude.{ℕ, zero, suc, Bool, true, false, List, [], ◌∷◌, Option, Some, None, if◌then◌else◌}
 use Rattle.std.specs.Prelude.{option_and_then}
 use Rattle.rc_text.specs.declared.place.Place.{Place}
 use Rattle.c_lexer.specs.declared.keyword.Keyword.TheVariants as words
@@ -66,7 +66,7 @@ module _ (expression : ℕ → Reader Expr) where
   unfoldable pub begun : Reader ForInit
   begun from = either (mark marks.Semicolon from)
       (onward (attributes from) λ list behind. if begins_type behind then begun_declaration list behind
-        else begun_expression from)
+      else begun_expression from)
       (λ to. Some (inits.Nothing, to))
 
   module _ (inner_kind : Position → Reader StmtKind) where
@@ -91,7 +91,7 @@ module _ (expression : ℕ → Reader Expr) where
     children_from position zero from = None
     children_from position (suc left) from = either (mark marks.CloseBrace from)
         (onward (child position from) λ one rest. onward (children_from position left rest) λ others to.
-          Some (one ∷ others, to))
+        Some (one ∷ others, to))
         (λ to. Some ([], to))
 
     unfoldable pub labelled : Position → Reader Stmt
@@ -106,7 +106,7 @@ module _ (expression : ℕ → Reader Expr) where
     cases_from position zero from = None
     cases_from position (suc left) from = either (mark marks.CloseBrace from)
         (onward (case_child position from) λ one rest. onward (cases_from position left rest) λ others to.
-          Some (one ∷ others, to))
+        Some (one ∷ others, to))
         (λ to. Some ([], to))
 
     unfoldable pub switch_body : Position → Reader Stmt
@@ -154,13 +154,13 @@ module _ (expression : ℕ → Reader Expr) where
     unfoldable pub jump_kind : Position → Reader StmtKind
     jump_kind position from = either (keyword words.Continue from)
         (either (keyword words.Break from) (either (keyword words.Return from) (expression_kind from) return_behind)
-          (jump position.breaks kinds.Break))
+        (jump position.breaks kinds.Break))
         (jump position.continues kinds.Continue)
 
     unfoldable pub loop_kind : Position → Reader StmtKind
     loop_kind position from = either (keyword words.While from)
         (either (keyword words.Do from) (either (keyword words.For from) (jump_kind position from) (for_behind from))
-          (do_behind from))
+        (do_behind from))
         (while_behind from)
 
     unfoldable pub keyword_kind : Position → Reader StmtKind
@@ -172,7 +172,7 @@ module _ (expression : ℕ → Reader Expr) where
     kind_with position from = either (mark marks.OpenBrace from)
         (either (mark marks.Semicolon from) (keyword_kind position from) (λ to. Some (kinds.Empty, to)))
         (λ inner. onward (children_from position (turns inner) inner) λ children to.
-          Some (kinds.Compound children, under from to))
+        Some (kinds.Compound children, under from to))
 
   -- statements that nest so often at most
   unfoldable pub kind_at : ℕ → Position → Reader StmtKind

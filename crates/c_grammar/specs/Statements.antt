@@ -1,5 +1,5 @@
 -- Statements, by the productions of C11 (annex A.2.3), as the profile has them.
-use Rattle.std.specs.Prelude.{◌≡◌, ℕ, Bool, true, false, ◌||◌, List, [], ◌∷◌, Option, Some, None, option_and_then, IsTrue}
+use Rattle.std.specs.Prelude.{◌≡◌, Bool, true, false, List, [], ◌∷◌, Option, Some, None, option_and_then}
 use Rattle.rc_text.specs.declared.place.Place.{Place}
 use Rattle.c_lexer.specs.declared.keyword.Keyword.{Keyword}
 use Rattle.c_lexer.specs.declared.keyword.Keyword.TheVariants as words
@@ -36,8 +36,10 @@ pub record Position : Type 0 where
 -- the body of a function, of a loop, of a switch
 abbrev pub outermost : Position
 outermost = record { continues = false; breaks = false }
+
 abbrev pub in_loop : Position
 in_loop = record { continues = true; breaks = true }
+
 abbrev pub in_switch : Position → Position
 in_switch position = record { continues = position.continues; breaks = true }
 
@@ -146,7 +148,7 @@ mutual
     declared : {from : Input} {attributes : List Attribute} {behind : Input} {place : Place} {tree : Declaration}
         {to : Input} → Attributes from attributes behind → place_of behind ≡ Some place → LocalDeclaration behind tree to
         → DeclaredChild from
-          (record { place = place; labels = []; attributes = attributes; kind = kinds.Declaration tree }) to
+        (record { place = place; labels = []; attributes = attributes; kind = kinds.Declaration tree }) to
 
   -- the body of a switch: a compound
   pub data SwitchBody : Position → Input → Stmt → Input → Type 0 where
@@ -154,7 +156,7 @@ mutual
         {inner : Input} {children : List Stmt} {to : Input} → Attributes from attributes behind
         → place_of behind ≡ Some place → mark marks.OpenBrace behind ≡ Some inner → Cases position inner children to
         → SwitchBody position from
-          (record { place = place; labels = []; attributes = attributes; kind = kinds.Compound children }) to
+        (record { place = place; labels = []; attributes = attributes; kind = kinds.Compound children }) to
 
   -- the children of a switch's compound, which may have labels, with the closing brace
   pub data Cases : Position → Input → List Stmt → Input → Type 0 where
@@ -164,7 +166,7 @@ mutual
         {others : List Stmt} {to : Input} → Labels from list inner → Attributes inner attributes start
         → place_of start ≡ Some place → Kind position start kind behind → Cases position behind others to
         → Cases position from
-          (record { place = place; labels = list; attributes = attributes; kind = kind } ∷ others) to
+        (record { place = place; labels = list; attributes = attributes; kind = kind } ∷ others) to
     declared_case : {position : Position} {from : Input} {one : Stmt} {behind : Input} {others : List Stmt} {to : Input}
         → DeclaredChild from one behind → Cases position behind others to → Cases position from (one ∷ others) to
     stated_case : {position : Position} {from : Input} {one : Stmt} {behind : Input} {others : List Stmt} {to : Input}
