@@ -1,6 +1,7 @@
 -- Attributes as the profile has them: this project's own, in the form of C23 6.7.13. Those of prefix `rc` are kept, and
 -- all others are read and dropped.
-use Rattle.std.specs.Prelude.{◌≡◌, ℕ, List, [], ◌∷◌, ◌++◌, ◌-◌, codes, if◌then◌else◌, length, take, drop, Option, Some, None, option_and_then}
+use Rattle.std.specs.Prelude.{◌≡◌, ℕ, List, [], ◌∷◌, ◌++◌, ◌-◌, codes, if◌then◌else◌, length, take, drop, Option, Some}
+use Rattle.std.specs.Prelude.{None, option_and_then}
 use Rattle.std.specs.Str.{bytes_eq}
 use Rattle.c_lexer.specs.declared.token.Token.{Token}
 use Rattle.c_lexer.specs.declared.token.TokenKind.{TokenKind}
@@ -49,7 +50,9 @@ pub data Clause : Input → List AttributeText → Input → Type 0 where
 -- an attribute of this prefix, where it is kept
 abbrev pub kept : Name → Name → List AttributeText → List Attribute
 kept prefix name texts =
-    if bytes_eq prefix.text (codes "rc") then record { place = name.place; name = name.text; texts = texts } ∷ [] else []
+    if bytes_eq prefix.text (codes "rc")
+    then record { place = name.place; name = name.text; texts = texts } ∷ []
+    else []
 
 -- one attribute, with a prefix or without one
 pub data Single : Input → List Attribute → Input → Type 0 where

@@ -23,16 +23,21 @@ use Rattle.c_syntax.specs.declared.expr.Expr.{Expr}
 use Rattle.c_grammar.specs.declared.names.NameKind.TheVariants as names
 use Rattle.c_grammar.specs.Input.{Input, mark, identifier, declares}
 use Rattle.c_grammar.specs.Specifiers as types
-use Rattle.c_grammar.specs.Specifiers.{TypeStart, type_start, is_integer_word, is_modifier, is_qualifier, is_specifier_word, integer_type}
-use Rattle.c_grammar.specs.Declarations.{declarator, unnamed_parameter, is_void_alone, behind_function, agrees, is_typedef, is_local, declares_tag, definition, member_declaration, declaration}
-use Rattle.c_grammar.specs.Reading.{Reader, onward, past, either, turns, attributes, words, pointers, lengths, specified, single_by}
+use Rattle.c_grammar.specs.Specifiers.{TypeStart, type_start, is_integer_word, is_modifier, is_qualifier}
+use Rattle.c_grammar.specs.Specifiers.{is_specifier_word, integer_type}
+use Rattle.c_grammar.specs.Declarations.{declarator, unnamed_parameter, is_void_alone, behind_function, agrees}
+use Rattle.c_grammar.specs.Declarations.{is_typedef, is_local, declares_tag, definition, member_declaration}
+use Rattle.c_grammar.specs.Declarations.{declaration}
+use Rattle.c_grammar.specs.Reading.{Reader, onward, past, either, turns, attributes, words, pointers, lengths}
+use Rattle.c_grammar.specs.Reading.{specified, single_by}
 
 -- ---- what a declaration begins with
 
 -- the words of a type, around a type that one word or a struct, union or enumeration names
 unfoldable pub specified_with : Reader TypeSpecifier → Reader (List Keyword × TypeSpecifier)
 specified_with single from = onward (words is_specifier_word from) λ before rest. if list_any is_integer_word before
-    then option_and_then (λ type. Some ((filter is_modifier before, specifiers.Integer type), rest)) (integer_type before)
+    then option_and_then (λ type. Some ((filter is_modifier before, specifiers.Integer type), rest))
+    (integer_type before)
     else (onward (single rest) λ specifier behind. onward (words is_modifier behind) λ after to.
     Some ((before ++ after, specifier), to))
 
@@ -193,5 +198,6 @@ module _ (expression : ℕ → Reader Expr) where
   function_names_from zero from = None
   function_names_from (suc left) from = onward (function_declared from) λ function rest.
       either (mark marks.Comma (behind_function from function rest))
-      (past (mark marks.Semicolon (behind_function from function rest)) λ to. Some (declarators.Function function ∷ [], to))
+      (past (mark marks.Semicolon (behind_function from function rest)) λ to.
+      Some (declarators.Function function ∷ [], to))
       (λ inner. onward (function_names_from left inner) λ others to. Some (declarators.Function function ∷ others, to))

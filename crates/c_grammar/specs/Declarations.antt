@@ -1,5 +1,6 @@
 -- Declarations, by the productions of C11 (annex A.2.2), as the profile has them.
-use Rattle.std.specs.Prelude.{◌≡◌, ℕ, ◌+◌, ◌==◌, nat_le, Bool, true, false, ◌&&◌, List, [], ◌∷◌, ◌++◌, Some, None, IsTrue}
+use Rattle.std.specs.Prelude.{◌≡◌, ℕ, ◌+◌, ◌==◌, nat_le, Bool, true, false, ◌&&◌, List, [], ◌∷◌, ◌++◌, Some, None}
+use Rattle.std.specs.Prelude.{IsTrue}
 use Rattle.std.specs.List.{list_all}
 use Rattle.c_lexer.specs.declared.keyword.Keyword.{Keyword}
 use Rattle.c_lexer.specs.declared.keyword.Keyword.TheVariants as words
@@ -50,7 +51,8 @@ pub data Declared : Input → Declarator → Name → Input → Type 0 where
 
 -- a parameter without a name
 abbrev pub unnamed_parameter : ℕ → List Expr → ParameterDeclarator
-unnamed_parameter pointers lengths = parameters.Unnamed (roll-AbstractDeclarator (record { pointers = pointers; lengths = lengths }))
+unnamed_parameter pointers lengths =
+    parameters.Unnamed (roll-AbstractDeclarator (record { pointers = pointers; lengths = lengths }))
 
 -- parameter-declaration: a name is in scope behind it
 pub data ParameterDeclared : Input → Parameter → Input → Type 0 where
@@ -108,7 +110,8 @@ pub data Parameters : Input → List Parameter → Input → Type 0 where
 
 -- A function's declarator. What is left behind it is under the names of its parameters, too (6.2.1).
 pub data FunctionDeclared : Input → FunctionDeclarator → Input → Type 0 where
-  function_declarator : {from : Input} {pointers : ℕ} {behind : Input} {named : Named} {inner : Input} {list : List Parameter}
+  function_declarator : {from : Input} {pointers : ℕ} {behind : Input} {named : Named} {inner : Input}
+      {list : List Parameter}
       {to : Input} → Pointers from pointers behind → identifier behind ≡ Some named
       → mark marks.OpenParenthesis named.rest ≡ Some inner → Parameters inner list to
       → FunctionDeclared from (record { pointers = pointers; name = named.name; parameters = list }) to
@@ -256,7 +259,8 @@ pub data LocalDeclaration : Input → Declaration → Input → Type 0 where
       → IsTrue (declares_tag specifier) → mark marks.Semicolon behind ≡ Some to
       → LocalDeclaration from (declaration specifier kinds.TypeOnly) to
   typedefs : {from : Input} {modifiers : List Keyword} {specifier : TypeSpecifier} {behind : Input}
-      {declared : List Declarator} {to : Input} → Specified from modifiers specifier behind → IsTrue (is_local modifiers)
+      {declared : List Declarator} {to : Input} → Specified from modifiers specifier behind
+      → IsTrue (is_local modifiers)
       → IsTrue (agrees modifiers) → is_typedef modifiers ≡ true → TypedefNames behind declared to
       → LocalDeclaration from (declaration specifier (kinds.Typedef declared)) to
   declared_names : {from : Input} {modifiers : List Keyword} {specifier : TypeSpecifier} {behind : Input}

@@ -1,13 +1,15 @@
 -- How deep the parts of an expression are that are no expressions (inner), by the steps of an expression's depth.
 use Rattle.std.specs.Prelude.{ℕ, ◌+◌, max, map, unwrap_or}
-use Rattle.c_syntax.specs.declared.expr.ExprKind.TheFolds.{fold-Enumerator, fold-TypeName, fold-Declarator, fold-MemberDeclaration}
+use Rattle.c_syntax.specs.declared.expr.ExprKind.TheFolds.{fold-Enumerator, fold-TypeName, fold-Declarator}
+use Rattle.c_syntax.specs.declared.expr.ExprKind.TheFolds.{fold-MemberDeclaration}
 use Rattle.c_syntax.specs.declared.expr.TypeName.{TypeName}
 use Rattle.c_syntax.specs.declared.declarator.Declarator.{Declarator}
 use Rattle.c_syntax.specs.declared.specifier.Enumerator.{Enumerator}
 use Rattle.c_syntax.specs.declared.specifier.MemberDeclaration.{MemberDeclaration}
 use Rattle.c_syntax.specs.declared.stmt.StmtKind.{StmtKind}
 use Rattle.c_syntax.specs.declared.stmt.StmtKind.TheFolds.{fold-StmtKind}
-use Rattle.c_syntax.specs.Depth.{label_depth, statement_step, deepest, expression_step, specifier_step, abstract_step, declarator_step, members_step}
+use Rattle.c_syntax.specs.Depth.{label_depth, statement_step, deepest, expression_step, specifier_step, abstract_step}
+use Rattle.c_syntax.specs.Depth.{declarator_step, members_step}
 
 -- the depth of a type's name
 abbrev pub type_name_depth : TypeName → ℕ

@@ -31,9 +31,11 @@ use Rattle.c_grammar.specs.declared.names.NameKind.TheVariants as names
 use Rattle.c_grammar.specs.Input.{Input, Named, mark, identifier, declares}
 use Rattle.c_grammar.specs.Attributes.{Attributes}
 use Rattle.c_grammar.specs.Operators as operators
-use Rattle.c_grammar.specs.Operators.{start, comma_level, assignment_level, conditional_level, cast_level, unary_level, postfix_level, binary_level, logical_level}
+use Rattle.c_grammar.specs.Operators.{start, comma_level, assignment_level, conditional_level, cast_level, unary_level}
+use Rattle.c_grammar.specs.Operators.{postfix_level, binary_level, logical_level}
 use Rattle.c_grammar.specs.Specifiers as types
-use Rattle.c_grammar.specs.Specifiers.{is_integer_word, is_modifier, is_qualifier, is_specifier_word, integer_type, Words, Pointers}
+use Rattle.c_grammar.specs.Specifiers.{is_integer_word, is_modifier, is_qualifier, is_specifier_word, integer_type}
+use Rattle.c_grammar.specs.Specifiers.{Words, Pointers}
 
 -- an expression of this kind at the place
 abbrev pub node : Place → ExprKind → Expr
@@ -173,7 +175,8 @@ mutual
 
   -- arguments with commas between them, and the closing parenthesis
   pub data ArgumentList : Input → List Expr → Input → Type 0 where
-    last_argument : {from : Input} {argument : Expr} {behind to : Input} → Expression assignment_level from argument behind
+    last_argument : {from : Input} {argument : Expr} {behind to : Input}
+        → Expression assignment_level from argument behind
         → mark marks.CloseParenthesis behind ≡ Some to → ArgumentList from (argument ∷ []) to
     more_arguments : {from : Input} {argument : Expr} {behind inner : Input} {arguments : List Expr} {to : Input}
         → Expression assignment_level from argument behind → mark marks.Comma behind ≡ Some inner
@@ -235,7 +238,8 @@ mutual
         }))) to
     untagged_enumeration : {from outer : Input} {attributes : List Attribute} {behind inner : Input}
         {enumerators : List Enumerator} {to : Input} → BeginsType from types.Enum outer
-        → Attributes outer attributes behind → mark marks.OpenBrace behind ≡ Some inner → Enumerators inner enumerators to
+        → Attributes outer attributes behind → mark marks.OpenBrace behind ≡ Some inner
+        → Enumerators inner enumerators to
         → SingleType from (specifiers.EnumDefinition (roll-EnumDefinition (record {
           attributes = attributes;
           tag = None;

@@ -67,7 +67,8 @@ module _ (limit : ℕ) where
       then (onward (typedef_names_from (nested limit limit).expression (turns behind) behind) λ list to.
       Some (items.Declaration (declaration specifier (kinds.Typedef list)), to))
       else either (mark marks.Semicolon behind) (functions specifier behind)
-      (λ to. if declares_tag specifier then Some (items.Declaration (declaration specifier kinds.TypeOnly), to) else None)
+      (λ to. if declares_tag specifier then Some (items.Declaration (declaration specifier kinds.TypeOnly), to)
+      else None)
 
   unfoldable pub any_item : Reader ItemKind
   any_item from = onward (defining (nested limit limit).expression (suc limit) from) λ type behind. if agrees type.0

@@ -21,7 +21,8 @@ use Rattle.c_syntax.specs.declared.unit.Unit as unit
 use Rattle.c_grammar.specs.declared.names.NameKind.TheVariants as names
 use Rattle.c_grammar.specs.Input.{Input, next, mark, declares}
 use Rattle.c_grammar.specs.Attributes.{Attributes}
-use Rattle.c_grammar.specs.Declarations.{Defining, FunctionDeclared, FileDeclaration, agrees, is_typedef, behind_function}
+use Rattle.c_grammar.specs.Declarations.{Defining, FunctionDeclared, FileDeclaration, agrees, is_typedef}
+use Rattle.c_grammar.specs.Declarations.{behind_function}
 use Rattle.c_grammar.specs.Statements.{outermost, place_of, Children}
 
 -- whether a parameter has a name, as each of a function with a body has
@@ -47,7 +48,8 @@ pub data ItemKindRead : Input → ItemKind → Input → Type 0 where
       → IsTrue (list_all (λ parameter. is_named parameter.declarator) tree.parameters)
       → Body (declares inner tree.name.text names.Ordinary) block to
       → ItemKindRead from
-      (items.Function (record { specifier = specifier; declarator = tree; body = block })) (behind_function behind tree to)
+      (items.Function (record { specifier = specifier; declarator = tree; body = block }))
+      (behind_function behind tree to)
   declaration : {from : Input} {tree : Declaration} {to : Input} → FileDeclaration from tree to
       → ItemKindRead from (items.Declaration tree) to
 

@@ -22,7 +22,8 @@ pub record Taken : Type 0 where
 -- the next token of tokens under the names
 abbrev pub first_of_tokens : List Token → List NameEntry → Option Taken
 first_of_tokens [] names = None
-first_of_tokens (token ∷ tokens) names = Some (record { token = token; rest = record { tokens = tokens; names = names } })
+first_of_tokens (token ∷ tokens) names =
+    Some (record { token = token; rest = record { tokens = tokens; names = names } })
 
 -- the next token, and what is left behind it; none at the end of the file
 abbrev pub next : Input → Option Taken

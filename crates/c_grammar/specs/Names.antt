@@ -34,7 +34,8 @@ declared_word None otherwise = otherwise
 abbrev pub word_by : List NameEntry → TokenKind → List ℕ → Word
 word_by entries kinds.Identifier text = declared_word (meaning_of entries text) OrdinaryName
 word_by entries (kinds.HeaderType type) text = declared_word (meaning_of entries text) (HeaderName type)
-word_by entries (kinds.AtomicOperation operation) text = declared_word (meaning_of entries text) (OperationName operation)
+word_by entries (kinds.AtomicOperation operation) text =
+    declared_word (meaning_of entries text) (OperationName operation)
 word_by entries _ text = NoName
 
 -- what a token is as a name

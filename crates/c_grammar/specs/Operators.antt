@@ -1,4 +1,5 @@
--- What begins an expression and what goes on with one: by the tokens, and how tightly each binds (C11 6.5, annex A.2.1).
+-- What begins an expression and what goes on with one: by the tokens, and how tightly each binds (C11 6.5, annex
+-- A.2.1).
 use Rattle.std.specs.Prelude.{ℕ, ◌+◌, List, Option, Some, None, option_and_then}
 use Rattle.rc_text.specs.declared.place.Place.{Place}
 use Rattle.c_lexer.specs.declared.token.TokenKind.{TokenKind}

@@ -1,5 +1,6 @@
 -- How expressions are read, from the left to the right (inner): what the grammar relates is what this finds.
-use Rattle.std.specs.Prelude.{ℕ, zero, suc, ◌+◌, Bool, true, false, ◌&&◌, nat_le, List, [], ◌∷◌, ◌++◌, length, Option, Some, None, if◌then◌else◌}
+use Rattle.std.specs.Prelude.{ℕ, zero, suc, ◌+◌, Bool, true, false, ◌&&◌, nat_le, List, [], ◌∷◌, ◌++◌, length, Option}
+use Rattle.std.specs.Prelude.{Some, None, if◌then◌else◌}
 use Rattle.std.specs.Prelude.{option_and_then}
 use Rattle.std.specs.List.{list_all, list_any, filter}
 use Rattle.rc_text.specs.declared.place.Place.{Place}
@@ -23,9 +24,12 @@ use Rattle.c_grammar.specs.declared.names.NameKind.TheVariants as names
 use Rattle.c_grammar.specs.Input.{Input, mark, identifier, declares}
 use Rattle.c_grammar.specs.Attributes.{string, kept}
 use Rattle.c_grammar.specs.Operators as operators
-use Rattle.c_grammar.specs.Operators.{Start, start, behind, comma_level, assignment_level, conditional_level, cast_level, unary_level, postfix_level, binary_level, logical_level, level_of, left_level}
+use Rattle.c_grammar.specs.Operators.{Start, start, behind, comma_level, assignment_level, conditional_level}
+use Rattle.c_grammar.specs.Operators.{cast_level, unary_level, postfix_level, binary_level, logical_level, level_of}
+use Rattle.c_grammar.specs.Operators.{left_level}
 use Rattle.c_grammar.specs.Specifiers as types
-use Rattle.c_grammar.specs.Specifiers.{TypeStart, type_start, word, is_integer_word, is_modifier, is_qualifier, is_specifier_word, integer_type}
+use Rattle.c_grammar.specs.Specifiers.{TypeStart, type_start, word, is_integer_word, is_modifier, is_qualifier}
+use Rattle.c_grammar.specs.Specifiers.{is_specifier_word, integer_type}
 use Rattle.c_grammar.specs.Expressions.{node, type_name}
 
 -- what is read, and what is left behind it
@@ -104,7 +108,8 @@ words test from = words_from test (suc (turns from)) from
 unfoldable pub pointers_from : ℕ → Reader ℕ
 pointers_from zero from = None
 pointers_from (suc left) from = either (mark marks.Star from) (Some (0, from)) (λ inner.
-    onward (words is_qualifier inner) λ qualifiers rest. onward (pointers_from left rest) λ count to. Some (suc count, to))
+    onward (words is_qualifier inner) λ qualifiers rest. onward (pointers_from left rest) λ count to.
+    Some (suc count, to))
 
 unfoldable pub pointers : Reader ℕ
 pointers from = pointers_from (suc (turns from)) from
@@ -191,7 +196,8 @@ module _ (expression : ℕ → Reader Expr) where
 
   unfoldable pub specified : Reader (List Keyword × TypeSpecifier)
   specified from = onward (words is_specifier_word from) λ before rest. if list_any is_integer_word before
-      then option_and_then (λ type. Some ((filter is_modifier before, specifiers.Integer type), rest)) (integer_type before)
+      then option_and_then (λ type. Some ((filter is_modifier before, specifiers.Integer type), rest))
+      (integer_type before)
       else (onward (single_type rest) λ specifier behind. onward (words is_modifier behind) λ after to.
       Some ((before ++ after, specifier), to))
 
@@ -250,7 +256,8 @@ module _ (limit : ℕ) (nested : Nested) where
 
   unfoldable pub cast : Place → Input → Option Begun
   cast place inner = onward (nested.type_name inner) λ target rest. past (mark marks.CloseParenthesis rest) λ behind.
-      onward (nested.expression cast_level behind) λ operand to. made limit cast_level place (kinds.Cast target operand) to
+      onward (nested.expression cast_level behind) λ operand to. made limit cast_level place
+      (kinds.Cast target operand) to
 
   -- a type's name between parentheses, behind the first
   unfoldable pub of_type : (TypeName → ExprKind) → Place → Input → Option Begun

@@ -95,7 +95,8 @@ module _ (expression : ℕ → Reader Expr) where
         (λ to. Some ([], to))
 
     unfoldable pub labelled : Position → Reader Stmt
-    labelled position from = onward (labels_from (turns from) from) λ list inner. onward (attributes inner) λ attributes behind.
+    labelled position from = onward (labels_from (turns from) from) λ list inner.
+        onward (attributes inner) λ attributes behind.
         stated_behind position list attributes behind
 
     -- a child of a switch's compound
@@ -130,7 +131,8 @@ module _ (expression : ℕ → Reader Expr) where
         Some (kinds.While test body, under from to)
 
     unfoldable pub do_behind : Input → Reader StmtKind
-    do_behind from inner = onward (statement in_loop inner) λ body rest. past (keyword words.While (under inner rest)) λ outer.
+    do_behind from inner = onward (statement in_loop inner) λ body rest.
+        past (keyword words.While (under inner rest)) λ outer.
         onward (tested outer) λ test close. past (mark marks.Semicolon close) λ to.
         Some (kinds.Do body test, under from to)
 

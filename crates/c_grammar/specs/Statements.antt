@@ -53,7 +53,8 @@ pub data Labels : Input → List Label → Input → Type 0 where
       → Labels from (labels.Default place ∷ []) to
   more_case : {from : Input} {place : Place} {inner : Input} {value : Expr} {colon behind : Input} {others : List Label}
       {to : Input} → place_of from ≡ Some place → keyword words.Case from ≡ Some inner → Expression 2 inner value colon
-      → mark marks.Colon colon ≡ Some behind → Labels behind others to → Labels from (labels.Case place value ∷ others) to
+      → mark marks.Colon colon ≡ Some behind → Labels behind others to
+      → Labels from (labels.Case place value ∷ others) to
   more_default : {from : Input} {place : Place} {colon behind : Input} {others : List Label} {to : Input}
       → place_of from ≡ Some place → keyword words.Default from ≡ Some colon → mark marks.Colon colon ≡ Some behind
       → Labels behind others to → Labels from (labels.Default place ∷ others) to
@@ -97,7 +98,8 @@ mutual
         → mark marks.Semicolon behind ≡ Some to → Kind position from (kinds.Expression tree) to
     empty : {position : Position} {from to : Input} → mark marks.Semicolon from ≡ Some to
         → Kind position from kinds.Empty to
-    -- selection-statement (6.8.4): an `else` belongs to the nearest `if`, so that none stands behind an `if` without one
+    -- selection-statement (6.8.4): an `else` belongs to the nearest `if`, so that none stands behind an `if` without
+    -- one
     if_ : {position : Position} {from open_ : Input} {test : Expr} {inner : Input} {then_ : Stmt} {to : Input}
         → keyword words.If from ≡ Some open_ → Tested open_ test inner → Statement position inner then_ to
         → keyword words.Else (under inner to) ≡ None → Kind position from (kinds.If test then_) (under from to)
@@ -113,7 +115,8 @@ mutual
     while : {position : Position} {from open_ : Input} {test : Expr} {inner : Input} {body : Stmt} {to : Input}
         → keyword words.While from ≡ Some open_ → Tested open_ test inner → Statement in_loop inner body to
         → Kind position from (kinds.While test body) (under from to)
-    do_ : {position : Position} {from inner : Input} {body : Stmt} {behind open_ : Input} {test : Expr} {close to : Input}
+    do_ : {position : Position} {from inner : Input} {body : Stmt} {behind open_ : Input} {test : Expr}
+        {close to : Input}
         → keyword words.Do from ≡ Some inner → Statement in_loop inner body behind
         → keyword words.While (under inner behind) ≡ Some open_ → Tested open_ test close
         → mark marks.Semicolon close ≡ Some to → Kind position from (kinds.Do body test) (under from to)
@@ -136,8 +139,10 @@ mutual
 
   -- block-item-list with the closing brace
   pub data Children : Position → Input → List Stmt → Input → Type 0 where
-    no_child : {position : Position} {from to : Input} → mark marks.CloseBrace from ≡ Some to → Children position from [] to
-    declared_child : {position : Position} {from : Input} {one : Stmt} {behind : Input} {others : List Stmt} {to : Input}
+    no_child : {position : Position} {from to : Input} → mark marks.CloseBrace from ≡ Some to
+        → Children position from [] to
+    declared_child : {position : Position} {from : Input} {one : Stmt} {behind : Input} {others : List Stmt}
+        {to : Input}
         → DeclaredChild from one behind → Children position behind others to → Children position from (one ∷ others) to
     stated_child : {position : Position} {from : Input} {one : Stmt} {behind : Input} {others : List Stmt} {to : Input}
         → Statement position from one behind → Children position behind others to
@@ -146,7 +151,8 @@ mutual
   -- a declaration among statements
   pub data DeclaredChild : Input → Stmt → Input → Type 0 where
     declared : {from : Input} {attributes : List Attribute} {behind : Input} {place : Place} {tree : Declaration}
-        {to : Input} → Attributes from attributes behind → place_of behind ≡ Some place → LocalDeclaration behind tree to
+        {to : Input} → Attributes from attributes behind → place_of behind ≡ Some place
+        → LocalDeclaration behind tree to
         → DeclaredChild from
         (record { place = place; labels = []; attributes = attributes; kind = kinds.Declaration tree }) to
 
