@@ -41,6 +41,7 @@ specified_with single from = onward (words is_specifier_word from) λ before res
     else (onward (single rest) λ specifier behind. onward (words is_modifier behind) λ after to.
     Some ((before ++ after, specifier), to))
 
+-- whether it is `void`
 abbrev pub is_void_start : TypeStart → Bool
 is_void_start types.Void = true
 is_void_start _ = false
@@ -58,6 +59,7 @@ module _ (expression : ℕ → Reader Expr) where
   declared_behind count name rest = onward (lengths expression rest) λ lengths to.
       Some ((declarator count name lengths, name), to)
 
+  -- a declarator with its name
   unfoldable pub declared : Reader (Declarator × Name)
   declared from = onward (pointers from) λ count rest. option_and_then (λ named.
       declared_behind count named.name named.rest) (identifier rest)
@@ -73,10 +75,12 @@ module _ (expression : ℕ → Reader Expr) where
         declares to tree.1.text names.Ordinary,
       ))
 
+  -- one parameter
   unfoldable pub parameter : Reader Parameter
   parameter from = onward (specified expression from) λ type rest. if list_all is_qualifier type.0
       then parameter_behind type.1 rest else None
 
+  -- parameters and the closing parenthesis, in so many turns at most
   unfoldable pub parameters_from : ℕ → Reader (List Parameter)
   parameters_from zero from = None
   parameters_from (suc left) from = onward (parameter from) λ one rest. either (mark marks.Comma rest)
@@ -93,12 +97,14 @@ module _ (expression : ℕ → Reader Expr) where
   function_behind count name inner = onward (parameter_list inner) λ list to.
       Some (record { pointers = count; name = name; parameters = list }, to)
 
+  -- a function's declarator
   unfoldable pub function_declared : Reader FunctionDeclarator
   function_declared from = onward (pointers from) λ count rest. option_and_then (λ named.
       past (mark marks.OpenParenthesis named.rest) (function_behind count named.name)) (identifier rest)
 
   -- ---- names of declarations
 
+  -- declared types and the semicolon, in so many turns at most
   unfoldable pub typedef_names_from : ℕ → Reader (List Declarator)
   typedef_names_from zero from = None
   typedef_names_from (suc left) from = onward (declared from) λ tree rest.
@@ -112,6 +118,7 @@ module _ (expression : ℕ → Reader Expr) where
       (Some (declarators.Object tree None, declares rest name.text names.Ordinary))
       (λ inner. onward (expression 1 inner) λ value to. Some (declarators.Object tree (Some value), to))
 
+  -- a declared object or function
   unfoldable pub initialized : Reader InitDeclarator
   initialized from = onward (pointers from) λ count rest. option_and_then (λ named.
       either (mark marks.OpenParenthesis named.rest)
@@ -119,6 +126,7 @@ module _ (expression : ℕ → Reader Expr) where
       (λ inner. onward (function_behind count named.name inner) λ function to.
       Some (declarators.Function function, behind_function from function to))) (identifier rest)
 
+  -- declared objects and functions and the semicolon, in so many turns at most
   unfoldable pub initialized_names_from : ℕ → Reader (List InitDeclarator)
   initialized_names_from zero from = None
   initialized_names_from (suc left) from = onward (initialized from) λ one rest. either (mark marks.Comma rest)
@@ -134,12 +142,14 @@ module _ (expression : ℕ → Reader Expr) where
       (onward (initialized_names_from (turns rest) rest) λ list to. Some (declaration specifier (kinds.Names list), to))
       (λ to. if declares_tag specifier then Some (declaration specifier kinds.TypeOnly, to) else None)
 
+  -- a declaration inside a function
   unfoldable pub local_declaration : Reader Declaration
   local_declaration from = onward (specified expression from) λ type rest. if is_local type.0
       then local_behind type.0 type.1 rest else None
 
   -- ---- structs and unions with their members
 
+  -- members of one type and the semicolon, in so many turns at most
   unfoldable pub member_names_from : ℕ → Reader (List Declarator)
   member_names_from zero from = None
   member_names_from (suc left) from = onward (declared from) λ tree rest. either (mark marks.Comma rest)
@@ -154,10 +164,12 @@ module _ (expression : ℕ → Reader Expr) where
         Some (member_declaration attributes specifier list, to))
         (λ to. if declares_tag specifier then Some (member_declaration attributes specifier [], to) else None)
 
+    -- members of one type, with their attributes
     unfoldable pub member : Reader MemberDeclaration
     member from = onward (attributes from) λ list inner. onward (member_type inner) λ type rest.
         if list_all is_qualifier type.0 then members_behind list type.1 rest else None
 
+    -- members and the closing brace, in so many turns at most
     unfoldable pub members_from : ℕ → Reader (List MemberDeclaration)
     members_from zero from = None
     members_from (suc left) from = onward (member from) λ one rest. either (mark marks.CloseBrace rest)
@@ -171,18 +183,22 @@ module _ (expression : ℕ → Reader Expr) where
         (λ inner. onward (members_from (turns inner) inner) λ list to.
         Some (specifiers.RecordDefinition (definition kind attributes tag list), to))
 
+    -- a struct or union behind its keyword, with members or without
     unfoldable pub record_or_definition : RecordKind → Reader TypeSpecifier
     record_or_definition kind outer = onward (attributes outer) λ list rest. option_and_then (λ named.
         record_behind kind list named.name named.rest) (identifier rest)
 
+    -- a type behind its first token, with members or without
     abbrev pub defining_by : TypeStart → Reader TypeSpecifier
     defining_by types.Struct rest = record_or_definition records.Struct rest
     defining_by types.Union rest = record_or_definition records.Union rest
     defining_by start rest = single_by expression start rest
 
+    -- a type of one word, or a struct, union or enumeration
     unfoldable pub defining_type : Reader TypeSpecifier
     defining_type from = option_and_then (λ started. defining_by started.start started.rest) (type_start from)
 
+    -- a type with the words that stand round it
     unfoldable pub defining_with : Reader (List Keyword × TypeSpecifier)
     defining_with = specified_with defining_type
 

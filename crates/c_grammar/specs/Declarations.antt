@@ -66,6 +66,7 @@ pub data ParameterDeclared : Input → Parameter → Input → Type 0 where
       → IsTrue (list_all is_qualifier modifiers) → Pointers behind pointers inner → Lengths inner lengths to
       → ParameterDeclared from (record { specifier = specifier; declarator = unnamed_parameter pointers lengths }) to
 
+-- whether a list has nothing
 abbrev pub is_empty : {A : Type 0} → List A → Bool
 is_empty [] = true
 is_empty (x ∷ xs) = false
@@ -146,6 +147,7 @@ declares_tag_node (TypeSpecifier-F.Enum attributes tag) = true
 declares_tag_node (TypeSpecifier-F.EnumDefinition definition) = true
 declares_tag_node _ = false
 
+-- whether a type declares a struct, union or enumeration, so that it may stand alone
 abbrev pub declares_tag : TypeSpecifier → Bool
 declares_tag specifier = declares_tag_node (out-TypeSpecifier specifier)
 

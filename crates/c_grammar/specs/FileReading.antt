@@ -55,6 +55,7 @@ module _ (limit : ℕ) where
       (λ inner. onward (function_names_from (nested limit limit).expression (turns inner) inner) λ others to.
       Some (items.Declaration (declaration specifier (kinds.Names (declarators.Function tree ∷ others))), to))
 
+  -- functions behind the words of their result's type, the first perhaps with a body
   unfoldable pub functions : TypeSpecifier → Reader ItemKind
   functions specifier behind = onward (function_declared (nested limit limit).expression behind) λ tree inner.
       either (mark marks.OpenBrace (declares inner tree.name.text names.Ordinary))
@@ -70,6 +71,7 @@ module _ (limit : ℕ) where
       (λ to. if declares_tag specifier then Some (items.Declaration (declaration specifier kinds.TypeOnly), to)
       else None)
 
+  -- a definition or declaration, however deep
   unfoldable pub any_item : Reader ItemKind
   any_item from = onward (defining (nested limit limit).expression (suc limit) from) λ type behind. if agrees type.0
       then item_behind type.0 type.1 behind else None

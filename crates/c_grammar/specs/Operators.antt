@@ -27,18 +27,23 @@ use Rattle.c_grammar.specs.Input.{Input, next}
 abbrev pub comma_level : ℕ
 comma_level = 0
 
+-- assignment-expression
 abbrev pub assignment_level : ℕ
 assignment_level = 1
 
+-- conditional-expression
 abbrev pub conditional_level : ℕ
 conditional_level = 2
 
+-- cast-expression
 abbrev pub cast_level : ℕ
 cast_level = 13
 
+-- unary-expression
 abbrev pub unary_level : ℕ
 unary_level = 14
 
+-- postfix-expression
 abbrev pub postfix_level : ℕ
 postfix_level = 15
 

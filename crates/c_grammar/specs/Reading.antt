@@ -36,6 +36,7 @@ use Rattle.c_grammar.specs.Expressions.{node, type_name}
 abbrev pub Reading : Type 0 → Type 0
 Reading A = Option (A × Input)
 
+-- how something is read from what is left
 abbrev pub Reader : Type 0 → Type 0
 Reader A = Input → Reading A
 
@@ -60,6 +61,7 @@ turns input = length input.tokens
 
 -- ---- attributes
 
+-- strings and the closing parenthesis, in so many turns at most
 unfoldable pub texts_from : ℕ → Reader (List AttributeText)
 texts_from zero from = None
 texts_from (suc left) from = option_and_then (λ read. either (mark marks.Comma read.rest)
@@ -70,27 +72,32 @@ texts_from (suc left) from = option_and_then (λ read. either (mark marks.Comma 
 unfoldable pub clause_inside : Reader (List AttributeText)
 clause_inside inner = either (mark marks.CloseParenthesis inner) (texts_from (turns inner) inner) (λ to. Some ([], to))
 
+-- an attribute's strings, where it has parentheses
 unfoldable pub clause : Reader (List AttributeText)
 clause from = either (mark marks.OpenParenthesis from) (Some ([], from)) clause_inside
 
+-- one attribute
 unfoldable pub single : Reader (List Attribute)
 single from = option_and_then (λ first. either (mark marks.DoubleColon first.rest)
     (onward (clause first.rest) λ texts to. Some ([], to))
     (λ inner. option_and_then (λ second. onward (clause second.rest) λ texts to.
     Some (kept first.name second.name texts, to)) (identifier inner))) (identifier from)
 
+-- attributes and the two closing brackets, in so many turns at most
 unfoldable pub group_from : ℕ → Reader (List Attribute)
 group_from zero from = None
 group_from (suc left) from = onward (single from) λ one rest. either (mark marks.Comma rest)
     (past (mark marks.CloseBracket rest) λ inner. past (mark marks.CloseBracket inner) λ to. Some (one, to))
     (λ inner. onward (group_from left inner) λ others to. Some (one ++ others, to))
 
+-- attribute specifiers, in so many turns at most
 unfoldable pub attributes_from : ℕ → Reader (List Attribute)
 attributes_from zero from = None
 attributes_from (suc left) from = either (mark marks.OpenBracket from) (Some ([], from)) (λ outer.
     past (mark marks.OpenBracket outer) λ inner. onward (group_from (turns inner) inner) λ group rest.
     onward (attributes_from left rest) λ others to. Some (group ++ others, to))
 
+-- all attribute specifiers that stand next
 unfoldable pub attributes : Reader (List Attribute)
 attributes from = attributes_from (suc (turns from)) from
 
@@ -102,20 +109,24 @@ words_from test zero from = None
 words_from test (suc left) from = either (word test from) (Some ([], from)) (λ taken.
     onward (words_from test left taken.rest) λ words to. Some (taken.word ∷ words, to))
 
+-- all keywords that stand next and pass a test
 unfoldable pub words : (Keyword → Bool) → Reader (List Keyword)
 words test from = words_from test (suc (turns from)) from
 
+-- `*`s with their qualifiers, in so many turns at most
 unfoldable pub pointers_from : ℕ → Reader ℕ
 pointers_from zero from = None
 pointers_from (suc left) from = either (mark marks.Star from) (Some (0, from)) (λ inner.
     onward (words is_qualifier inner) λ qualifiers rest. onward (pointers_from left rest) λ count to.
     Some (suc count, to))
 
+-- all `*`s that stand next, with their qualifiers
 unfoldable pub pointers : Reader ℕ
 pointers from = pointers_from (suc (turns from)) from
 
 -- ---- types, with the reader of expressions that stand in them
 
+-- whether it begins a type
 abbrev pub is_type : TypeStart → Bool
 is_type types.NoType = false
 is_type _ = true
@@ -125,15 +136,18 @@ unfoldable pub begins_type : Input → Bool
 begins_type from = either (type_start from) false (λ started. is_type started.start)
 
 module _ (expression : ℕ → Reader Expr) where
+  -- array lengths, in so many turns at most
   unfoldable pub lengths_from : ℕ → Reader (List Expr)
   lengths_from zero from = None
   lengths_from (suc left) from = either (mark marks.OpenBracket from) (Some ([], from)) (λ inner.
       onward (expression conditional_level inner) λ length close. past (mark marks.CloseBracket close) λ rest.
       onward (lengths_from left rest) λ lengths to. Some (length ∷ lengths, to))
 
+  -- all array lengths that stand next
   unfoldable pub lengths : Reader (List Expr)
   lengths from = lengths_from (suc (turns from)) from
 
+  -- one constant of an enumeration
   unfoldable pub constant : Reader Enumerator
   constant from = option_and_then (λ named. either (mark marks.Assign named.rest)
       (Some (
@@ -146,6 +160,7 @@ module _ (expression : ℕ → Reader Expr) where
         declares rest named.name.text names.Ordinary,
       ))) (identifier from)
 
+  -- constants of an enumeration and the closing brace, in so many turns at most
   unfoldable pub enumerators_from : ℕ → Reader (List Enumerator)
   enumerators_from zero from = None
   enumerators_from (suc left) from = onward (constant from) λ one rest. either (mark marks.Comma rest)
@@ -171,15 +186,18 @@ module _ (expression : ℕ → Reader Expr) where
   tagged attributes tag rest = either (mark marks.OpenBrace rest) (Some (specifiers.Enum attributes tag, rest))
       (enumeration attributes (Some tag))
 
+  -- an enumeration behind its keyword
   unfoldable pub enum_type : Reader TypeSpecifier
   enum_type from = onward (attributes from) λ attributes rest. either (identifier rest)
       (past (mark marks.OpenBrace rest) (enumeration attributes None))
       (λ named. tagged attributes named.name named.rest)
 
+  -- a struct or union behind its keyword, by its tag
   unfoldable pub record_type : RecordKind → Reader TypeSpecifier
   record_type kind from = onward (attributes from) λ attributes rest. option_and_then (λ named.
       Some (specifiers.Record kind attributes named.name, named.rest)) (identifier rest)
 
+  -- a type behind its first token
   abbrev pub single_by : TypeStart → Reader TypeSpecifier
   single_by types.Void rest = Some (specifiers.Void, rest)
   single_by types.Boolean rest = Some (specifiers.Bool, rest)
@@ -191,9 +209,11 @@ module _ (expression : ℕ → Reader Expr) where
   single_by types.SpecifierWord rest = None
   single_by types.NoType rest = None
 
+  -- a type of one word, or of a keyword and a tag
   unfoldable pub single_type : Reader TypeSpecifier
   single_type from = option_and_then (λ started. single_by started.start started.rest) (type_start from)
 
+  -- a type with the words that stand round it
   unfoldable pub specified : Reader (List Keyword × TypeSpecifier)
   specified from = onward (words is_specifier_word from) λ before rest. if list_any is_integer_word before
       then option_and_then (λ type. Some ((filter is_modifier before, specifiers.Integer type), rest))
@@ -201,6 +221,7 @@ module _ (expression : ℕ → Reader Expr) where
       else (onward (single_type rest) λ specifier behind. onward (words is_modifier behind) λ after to.
       Some ((before ++ after, specifier), to))
 
+  -- a type's name
   unfoldable pub type_named : Reader TypeName
   type_named from = onward (specified from) λ type rest. if list_all is_qualifier type.0
       then (onward (pointers rest) λ count inner. onward (lengths inner) λ lengths to.
@@ -234,6 +255,7 @@ abbrev pub goes_on : ℕ → operators.Infix → ℕ → Bool
 goes_on wanted operator level = nat_le wanted (level_of operator) && nat_le (left_level operator) level
 
 module _ (limit : ℕ) (nested : Nested) where
+  -- arguments and the closing parenthesis, in so many turns at most
   unfoldable pub arguments_from : ℕ → Reader (List Expr)
   arguments_from zero from = None
   arguments_from (suc left) from = onward (nested.expression assignment_level from) λ argument rest.
@@ -250,10 +272,12 @@ module _ (limit : ℕ) (nested : Nested) where
   unfoldable pub call : (List Expr → ExprKind) → Place → Input → Option Begun
   call kind place inner = onward (arguments inner) λ arguments to. made limit postfix_level place (kind arguments) to
 
+  -- an expression in parentheses, behind the first
   unfoldable pub parenthesized : Place → Input → Option Begun
   parenthesized place inner = onward (nested.expression comma_level inner) λ tree rest.
       past (mark marks.CloseParenthesis rest) λ to. made limit postfix_level place (kinds.Parenthesized tree) to
 
+  -- a cast, behind its opening parenthesis
   unfoldable pub cast : Place → Input → Option Begun
   cast place inner = onward (nested.type_name inner) λ target rest. past (mark marks.CloseParenthesis rest) λ behind.
       onward (nested.expression cast_level behind) λ operand to. made limit cast_level place
@@ -269,11 +293,13 @@ module _ (limit : ℕ) (nested : Nested) where
   operand level kind place inner = onward (nested.expression level inner) λ operand to.
       made limit unary_level place (kind operand) to
 
+  -- what `sizeof` is of, behind it
   unfoldable pub size_of : Place → Input → Option Begun
   size_of place outer = if begins_cast outer
       then past (mark marks.OpenParenthesis outer) (of_type kinds.SizeOfType place)
       else operand unary_level kinds.SizeOfExpr place outer
 
+  -- a first operand behind its first token
   abbrev pub begun_by : Start → Place → Input → Option Begun
   begun_by (operators.Integer constant) place rest = made limit postfix_level place (kinds.Integer constant) rest
   begun_by (operators.Character constant) place rest = made limit postfix_level place (kinds.Character constant) rest
@@ -298,15 +324,18 @@ module _ (limit : ℕ) (nested : Nested) where
   joined level right kind place inner = onward (nested.expression right inner) λ second to.
       made limit level place (kind second) to
 
+  -- the second and third operand of a conditional expression
   unfoldable pub conditional : Expr → Input → Option Begun
   conditional test inner = onward (nested.expression comma_level inner) λ first colon.
       past (mark marks.Colon colon) λ rest. joined conditional_level conditional_level (kinds.Conditional test first)
       test.place rest
 
+  -- an index and the closing bracket
   unfoldable pub subscript : Expr → Input → Option Begun
   subscript array inner = onward (nested.expression comma_level inner) λ index close.
       past (mark marks.CloseBracket close) λ to. made limit postfix_level array.place (kinds.Subscript array index) to
 
+  -- a member's name
   unfoldable pub member : (Name → ExprKind) → Place → Input → Option Begun
   member kind place inner = option_and_then (λ named. made limit postfix_level place (kind named.name) named.rest)
       (identifier inner)

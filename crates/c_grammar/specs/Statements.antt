@@ -37,9 +37,11 @@ pub record Position : Type 0 where
 abbrev pub outermost : Position
 outermost = record { continues = false; breaks = false }
 
+-- the body of a loop
 abbrev pub in_loop : Position
 in_loop = record { continues = true; breaks = true }
 
+-- the body of a switch
 abbrev pub in_switch : Position → Position
 in_switch position = record { continues = position.continues; breaks = true }
 
