@@ -1,0 +1,15 @@
+pub mod Names
+pub mod Marks
+pub mod Input
+pub mod Attributes
+pub mod Operators
+pub mod Specifiers
+pub mod Expressions
+pub mod Declarations
+pub mod Statements
+pub mod Grammar
+pub mod Depths
+pub mod Reading
+pub mod DeclarationReading
+pub mod StatementReading
+pub mod FileReading
