@@ -5,5 +5,5 @@
 mod laws;
 mod names;
 
-pub use laws::trees_are_determined;
+pub use laws::{files_are_read_exactly, trees_are_determined};
 pub use names::{NameEntry, NameKind};
