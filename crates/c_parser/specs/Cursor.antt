@@ -7,9 +7,14 @@ use Rattle.c_lexer.specs.declared.token.TokenKind.{TokenKind}
 use Rattle.c_lexer.specs.declared.token.TokenKind.TheVariants as kinds
 use Rattle.c_grammar.specs.Input.{Input, Named, next}
 use Rattle.c_grammar.specs.Attributes.{ReadText}
-use Rattle.c_grammar.specs.Specifiers.{TakenWord}
+use Rattle.c_grammar.specs.Operators.{Started, TakenInfix}
+use Rattle.c_grammar.specs.Specifiers.{TakenWord, TypeStarted}
 use Rattle.c_parser.specs.declared.cursor.Identifier.{Identifier}
 use Rattle.c_parser.specs.declared.cursor.Quoted.{Quoted}
+use Rattle.c_parser.specs.declared.cursor.FirstToken.{FirstToken}
+use Rattle.c_parser.specs.declared.infix.Infix.{Infix}
+use Rattle.c_parser.specs.declared.starts.TypeStart.{TypeStart}
+use Rattle.c_parser.specs.Starts.{type_seen, start_seen, infix_seen}
 
 -- the input behind the next token
 abbrev pub skipped : Input → Input
@@ -51,3 +56,19 @@ FindsText found old None new = (found ≡ None) × (new ≡ old)
 abbrev pub FindsWord : Option TakenWord → Input → Option Keyword → Input → Type 0
 FindsWord found old (Some word) new = found ≡ Some (record { word = word; rest = new })
 FindsWord found old None new = (found ≡ None) × (new ≡ old)
+
+-- what stands next as the first token of a type, behind which the rest is left
+abbrev pub BeginsType : Option TypeStarted → Input → Option TypeStart → Type 0
+BeginsType found rest None = found ≡ None
+BeginsType found rest (Some start) = found ≡ Some (record { start = type_seen start; rest = rest })
+
+-- the same as the first token of an expression
+abbrev pub Begins : Option Started → Input → Option FirstToken → Type 0
+Begins found rest None = found ≡ None
+Begins found rest (Some first) =
+    found ≡ Some (record { start = start_seen first.start; place = first.place; rest = rest })
+
+-- the same as an operator behind an expression
+abbrev pub GoesOn : Option TakenInfix → Input → Option Infix → Type 0
+GoesOn found rest None = found ≡ None
+GoesOn found rest (Some operator) = found ≡ Some (record { operator = infix_seen operator; rest = rest })

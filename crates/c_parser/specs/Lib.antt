@@ -1,5 +1,6 @@
 pub mod Refusals
 pub mod Reads
 pub mod Words
+pub mod Starts
 pub mod Attributes
 pub mod Cursor

@@ -1,19 +1,27 @@
-ghost use Rattle.std.specs.Prelude.{◌≡◌, suc};
-ghost use Rattle.c_grammar.specs.Input.{mark, identifier, is_identifier};
+ghost use Rattle.std.specs.Prelude.{◌≡◌, suc, IfOk};
+ghost use Rattle.c_grammar.specs.Input.{mark, identifier, is_identifier, declares};
 ghost use Rattle.c_grammar.specs.Attributes.{string, quoted};
 ghost use Rattle.c_grammar.specs.Marks.{is_mark};
-ghost use Rattle.c_grammar.specs.Reading.{turns};
-ghost use Rattle.c_grammar.specs.Specifiers.{word};
+ghost use Rattle.c_grammar.specs.Names.{word_of};
+ghost use Rattle.c_grammar.specs.Operators.{start, start_by, behind};
+ghost use Rattle.c_grammar.specs.Reading.{turns, begins_type, begins_cast};
+ghost use Rattle.c_grammar.specs.Specifiers.{word, type_start, type_by};
 ghost use Rattle.c_parser.specs.Cursor.{skipped, is_string, keyword_of, IsNext, Marks, FindsName, FindsText, FindsWord};
+ghost use Rattle.c_parser.specs.Cursor.{BeginsType, Begins, GoesOn};
+ghost use Rattle.c_parser.specs.Starts.{type_seen, start_seen};
 ghost use Rattle.c_parser.specs.Reads.{IsRefusal, Expects};
 ghost use Rattle.c_parser.specs.Words.{test_of};
 
+use crate::infix::Infix;
 use crate::left_out::LeftOut;
 use crate::names::Names;
 use crate::refusal::ParseRefusal;
+use crate::starts::{Start, TypeStart, is_type, start_by, type_by, word_of};
 use crate::words::WordTest;
+use c_grammar::NameKind;
 use c_lexer::{Keyword, Punctuator, Token, TokenKind};
-use rc_text::Place;
+use rc_text::{NoMemory, Place};
+use std::alloc::Global;
 use std::marker::Model;
 
 /// The tokens that are left to be read, the names in scope, and where the file ends. Contracts see the first two.
@@ -44,6 +52,13 @@ pub(crate) struct Identifier<'a> {
 pub(crate) struct Quoted<'a> {
     pub place: Place,
     pub text: &'a [u8],
+}
+
+/// The first token of an expression, and where it stands.
+#[derive(Clone, Copy)]
+pub(crate) struct FirstToken<'a> {
+    pub start: Start<'a>,
+    pub place: Place,
 }
 
 impl<'a> Cursor<'a> {
@@ -149,6 +164,79 @@ impl<'a> Cursor<'a> {
             },
             None => None,
         }
+    }
+
+    /// What the next token is as the first one of a type.
+    #[tactic(auto, unfolding(c_grammar::specs::Specifiers::type_start))]
+    pub(crate) fn type_start(&self) -> Option<TypeStart<'a>>
+        ensures { BeginsType (type_start self.now) (skipped self.now) result }
+    {
+        match self.peek() {
+            Some(token) => Some(self.type_at(token)),
+            None => None,
+        }
+    }
+
+    fn type_at(&self, token: &'a Token) -> TypeStart<'a>
+        ensures { type_seen result ≡ type_by token.now.kind (word_of self.now.names token.now) token.now.text }
+    {
+        let text = token.text.as_slice();
+        type_by(token.kind, word_of(&self.names, token.kind, text), text)
+    }
+
+    /// Whether a type begins at the next token.
+    #[tactic(auto, unfolding(c_grammar::specs::Reading::begins_type))]
+    pub(crate) fn begins_type(&self) -> bool
+        ensures { result ≡ begins_type self.now }
+    {
+        match self.type_start() {
+            Some(start) => is_type(start),
+            None => false,
+        }
+    }
+
+    /// What the next token is as the first one of an expression.
+    #[tactic(auto, unfolding(c_grammar::specs::Operators::start))]
+    pub(crate) fn start(&self) -> Option<FirstToken<'a>>
+        ensures { Begins (start self.now) (skipped self.now) result }
+    {
+        match self.peek() {
+            Some(token) => Some(FirstToken {
+                start: self.start_at(token),
+                place: token.place,
+            }),
+            None => None,
+        }
+    }
+
+    fn start_at(&self, token: &'a Token) -> Start<'a>
+        ensures { start_seen result ≡ start_by token.now.kind (word_of self.now.names token.now) token.now.text }
+    {
+        let text = token.text.as_slice();
+        start_by(token.kind, word_of(&self.names, token.kind, text), text)
+    }
+
+    /// The operator that stands next behind an expression.
+    #[tactic(auto, unfolding(c_grammar::specs::Operators::behind))]
+    pub(crate) fn infix(&self) -> Option<Infix>
+        ensures { GoesOn (behind self.now) (skipped self.now) result }
+    {
+        match self.peek() {
+            Some(token) => Infix::of(token.kind),
+            None => None,
+        }
+    }
+
+    /// Brings a name into scope.
+    pub(crate) fn declare(
+        &mut self,
+        alloc: Global,
+        name: &[u8],
+        kind: NameKind,
+    ) -> Result<(), NoMemory>
+        ensures { IfOk result (λ _. self.new ≡ declares self.old name.now kind) }
+    {
+        self.names.declare(alloc, name, kind)
     }
 
     /// Where the next token stands, or the file ends.

@@ -4,9 +4,11 @@
 
 mod attributes;
 mod cursor;
+mod infix;
 mod left_out;
 mod names;
 mod refusal;
+mod starts;
 mod words;
 
 pub use left_out::LeftOut;
