@@ -5,6 +5,7 @@ use Rattle.c_lexer.specs.declared.keyword.Keyword.{Keyword}
 use Rattle.c_lexer.specs.declared.token.Token.{Token}
 use Rattle.c_lexer.specs.declared.token.TokenKind.{TokenKind}
 use Rattle.c_lexer.specs.declared.token.TokenKind.TheVariants as kinds
+use Rattle.c_syntax.specs.declared.name.Name.{Name}
 use Rattle.c_grammar.specs.Input.{Input, Named, next}
 use Rattle.c_grammar.specs.Attributes.{ReadText}
 use Rattle.c_grammar.specs.Operators.{Started, TakenInfix}
@@ -40,10 +41,14 @@ abbrev pub Marks : Option Input → Input → Bool → Input → Type 0
 Marks found old true new = found ≡ Some new
 Marks found old false new = (found ≡ None) × (new ≡ old)
 
+-- an identifier as a name
+abbrev pub name_seen : Identifier → Name
+name_seen name = record { place = name.place; text = name.text.now }
+
 -- the same of an identifier
 abbrev pub FindsName : Option Named → Input → Option Identifier → Input → Type 0
 FindsName found old (Some name) new =
-    found ≡ Some (record { name = record { place = name.place; text = name.text.now }; rest = new })
+    found ≡ Some (record { name = name_seen name; rest = new })
 FindsName found old None new = (found ≡ None) × (new ≡ old)
 
 -- the same of a string

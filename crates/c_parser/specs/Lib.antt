@@ -4,3 +4,7 @@ pub mod Words
 pub mod Starts
 pub mod Attributes
 pub mod Cursor
+pub mod Deep
+pub mod Nodes
+pub mod Nests
+pub mod Integers

@@ -18,10 +18,7 @@ pub(crate) fn name(alloc: Global, cursor: &mut Cursor<'_>) -> Result<Name, Parse
     ensures { ReadsName (identifier cursor.old) result cursor.new }
 {
     match cursor.identifier() {
-        Some(found) => Ok(Name {
-            place: found.place,
-            text: Bytes::from_slice(alloc, found.text)?,
-        }),
+        Some(found) => found.to_name(alloc),
         None => Err(cursor.unexpected()),
     }
 }

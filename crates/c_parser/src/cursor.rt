@@ -7,9 +7,9 @@ ghost use Rattle.c_grammar.specs.Operators.{start, start_by, behind};
 ghost use Rattle.c_grammar.specs.Reading.{turns, begins_type, begins_cast};
 ghost use Rattle.c_grammar.specs.Specifiers.{word, type_start, type_by};
 ghost use Rattle.c_parser.specs.Cursor.{skipped, is_string, keyword_of, IsNext, Marks, FindsName, FindsText, FindsWord};
-ghost use Rattle.c_parser.specs.Cursor.{BeginsType, Begins, GoesOn};
+ghost use Rattle.c_parser.specs.Cursor.{BeginsType, Begins, GoesOn, name_seen};
 ghost use Rattle.c_parser.specs.Starts.{type_seen, start_seen};
-ghost use Rattle.c_parser.specs.Reads.{IsRefusal, Expects};
+ghost use Rattle.c_parser.specs.Reads.{IsRefusal, Expects, Keeps};
 ghost use Rattle.c_parser.specs.Words.{test_of};
 
 use crate::infix::Infix;
@@ -20,7 +20,8 @@ use crate::starts::{Start, TypeStart, is_type, start_by, type_by, word_of};
 use crate::words::WordTest;
 use c_grammar::NameKind;
 use c_lexer::{Keyword, Punctuator, Token, TokenKind};
-use rc_text::{NoMemory, Place};
+use c_syntax::Name;
+use rc_text::{Bytes, NoMemory, Place};
 use std::alloc::Global;
 use std::marker::Model;
 
@@ -45,6 +46,17 @@ impl<'a> Model for Cursor<'a> {
 pub(crate) struct Identifier<'a> {
     pub place: Place,
     pub text: &'a [u8],
+}
+
+impl<'a> Identifier<'a> {
+    pub(crate) fn to_name(self, alloc: Global) -> Result<Name, ParseRefusal>
+        ensures { Keeps (name_seen self.entry) result }
+    {
+        Ok(Name {
+            place: self.place,
+            text: Bytes::from_slice(alloc, self.text)?,
+        })
+    }
 }
 
 /// A string where it stands, without its quotes.
@@ -192,6 +204,41 @@ impl<'a> Cursor<'a> {
         match self.type_start() {
             Some(start) => is_type(start),
             None => false,
+        }
+    }
+
+    /// The token behind the next one.
+    fn second(&self) -> Option<&'a Token>
+        ensures { IsNext (skipped self.now) result }
+    {
+        match self.tokens.split_first() {
+            Some((_, rest)) => match rest.split_first() {
+                Some((token, _)) => Some(token),
+                None => None,
+            },
+            None => None,
+        }
+    }
+
+    /// Whether a type begins behind the next token.
+    #[tactic(auto, unfolding(c_grammar::specs::Reading::begins_type, c_grammar::specs::Specifiers::type_start))]
+    fn type_behind(&self) -> bool
+        ensures { result ≡ begins_type (skipped self.now) }
+    {
+        match self.second() {
+            Some(token) => is_type(self.type_at(token)),
+            None => false,
+        }
+    }
+
+    /// Whether a parenthesis stands next, and behind it the beginning of a type.
+    #[tactic(auto, unfolding(c_grammar::specs::Reading::begins_cast, c_grammar::specs::Input::mark))]
+    pub(crate) fn begins_cast(&self) -> bool
+        ensures { result ≡ begins_cast self.now }
+    {
+        match self.peek() {
+            Some(token) if is_mark(Punctuator::OpenParenthesis, token.kind) => self.type_behind(),
+            _ => false,
         }
     }
 

@@ -4,13 +4,18 @@
 
 mod attributes;
 mod cursor;
+mod deep;
+mod grammar;
 mod infix;
+mod integers;
 mod left_out;
 mod names;
+mod nodes;
 mod refusal;
 mod starts;
 mod words;
 
+pub use deep::{DEPTH_LIMIT, Deep};
 pub use left_out::LeftOut;
 pub use names::Names;
 pub use refusal::ParseRefusal;
