@@ -6,7 +6,8 @@ use Rattle.c_syntax.specs.declared.expr.ExprKind.TheVariants as kinds
 use Rattle.c_syntax.specs.declared.expr.TypeName.{TypeName}
 use Rattle.c_syntax.specs.declared.name.Name.{Name}
 use Rattle.c_syntax.specs.Depth.{expression_depth, deepest}
-use Rattle.c_grammar.specs.Operators.{comma_level, assignment_level, cast_level, unary_level, binary_level, logical_level}
+use Rattle.c_grammar.specs.Operators.{comma_level, assignment_level, cast_level, unary_level}
+use Rattle.c_grammar.specs.Operators.{binary_level, logical_level}
 use Rattle.c_parser.specs.declared.nodes.Before.{Before}
 use Rattle.c_parser.specs.declared.nodes.Before.TheVariants as before
 use Rattle.c_parser.specs.declared.nodes.OfType.{OfType}

@@ -17,9 +17,10 @@ pub(crate) struct Grammar<'g, F> {
     pub read: &'g F,
 }
 
-impl<'g, F: Fn(Global, &mut Cursor<'_>, usize, u8) -> Result<Deep<Boxed<Expr>>, ParseRefusal>>
-    Grammar<'g, F>
-{
+impl<
+    'g,
+    F: Fn(Global, &mut Cursor<'_>, usize, u8) -> Result<Deep<Boxed<Expr>>, ParseRefusal>,
+> Grammar<'g, F> {
     /// An expression of the category that is nested in another or in a type.
     pub(crate) fn expression(
         &self,

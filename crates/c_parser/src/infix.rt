@@ -9,10 +9,15 @@ use c_syntax::{AssignmentOperator, BinaryOperator, IncrementOperator, LogicalOpe
 
 /// The syntactic categories of expressions, by how tightly their operators bind.
 pub(crate) const COMMA_LEVEL: u8 = 0;
+
 pub(crate) const ASSIGNMENT_LEVEL: u8 = 1;
+
 pub(crate) const CONDITIONAL_LEVEL: u8 = 2;
+
 pub(crate) const CAST_LEVEL: u8 = 13;
+
 pub(crate) const UNARY_LEVEL: u8 = 14;
+
 pub(crate) const POSTFIX_LEVEL: u8 = 15;
 
 /// What goes on with an expression.

@@ -1,7 +1,8 @@
 //! The words of integer types (C11 6.7.2): which type they name together, in whatever order.
 ghost use Rattle.std.specs.Prelude.{◌≡◌};
 ghost use Rattle.std.specs.List.{filter, list_any};
-ghost use Rattle.c_grammar.specs.Specifiers.{is_integer_word, is_modifier, times, same_words, integer_spellings, integer_type};
+ghost use Rattle.c_grammar.specs.Specifiers.{is_integer_word, is_modifier, times, same_words};
+ghost use Rattle.c_grammar.specs.Specifiers.{integer_spellings, integer_type};
 ghost use Rattle.c_parser.specs.Integers.{spellings_seen};
 ghost use Rattle.c_parser.specs.Reads.{Keeps};
 
@@ -150,7 +151,12 @@ fn spellings() -> &'static [Spelling]
             named: IntegerType::UnsignedLongLong,
         },
         Spelling {
-            words: &[Keyword::Unsigned, Keyword::Long, Keyword::Long, Keyword::Int],
+            words: &[
+                Keyword::Unsigned,
+                Keyword::Long,
+                Keyword::Long,
+                Keyword::Int,
+            ],
             named: IntegerType::UnsignedLongLong,
         },
     ]

@@ -5,7 +5,8 @@ ghost use Rattle.c_grammar.specs.Depths.{type_name_depth};
 ghost use Rattle.c_syntax.specs.Depth.{expression_depth};
 ghost use Rattle.c_syntax.specs.declared.expr.ExprKind.TheVariants as kinds;
 ghost use Rattle.c_parser.specs.Deep.{IsDeep, Makes};
-ghost use Rattle.c_parser.specs.Nodes.{before_kind, of_type_kind, call_kind, member_kind, joint_kind, expressions_depth};
+ghost use Rattle.c_parser.specs.Nodes.{before_kind, of_type_kind, call_kind, member_kind, joint_kind};
+ghost use Rattle.c_parser.specs.Nodes.{expressions_depth};
 ghost use Rattle.c_parser.specs.Cursor.{name_seen};
 ghost use Rattle.c_parser.specs.Reads.{Keeps};
 
@@ -14,8 +15,8 @@ use crate::deep::{Deep, deeper};
 use crate::refusal::ParseRefusal;
 use c_lexer::AtomicOperation;
 use c_syntax::{
-    AssignmentOperator, BinaryOperator, Expr, ExprKind, IncrementOperator, LogicalOperator, TypeName,
-    UnaryOperator,
+    AssignmentOperator, BinaryOperator, Expr, ExprKind, IncrementOperator, LogicalOperator,
+    TypeName, UnaryOperator,
 };
 use rc_text::{Bytes, Place};
 use sqlite_items::{Boxed, Items};
