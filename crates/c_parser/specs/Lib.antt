@@ -1,0 +1,10 @@
+pub mod Refusals
+pub mod Reads
+pub mod Words
+pub mod Starts
+pub mod Attributes
+pub mod Cursor
+pub mod Deep
+pub mod Nodes
+pub mod Nests
+pub mod Integers
