@@ -4,6 +4,7 @@ pub mod Decisions
 pub mod Expands
 pub mod Gathering
 pub mod Integers
+pub mod Judgements
 pub mod KeyNodes
 pub mod Keys
 pub mod Negations

@@ -1,9 +1,8 @@
 -- Where two lists of summands give each product the same factor, they are one polynomial.
-use Rattle.std.proofs.Common.{◌≡◌, ℕ, Bool, true, false, not, cond, List, [], ◌∷◌, map, filter, refl, ap, ◌∙◌, sym, subst, ℤ, pos, ◌+ℤ◌, arith}
-use Rattle.std.specs.List.{concat}
-use Rattle.std.specs.Ordering.{int_eq, is_eq, match_ordering, ordering_reverse, nat_cmp}
+use Rattle.std.proofs.Common.{◌≡◌, ℕ, Bool, true, false, not, cond, List, [], ◌∷◌, refl, ap, ◌∙◌, sym, ℤ, pos, ◌+ℤ◌, arith}
+use Rattle.std.specs.Ordering.{int_eq, is_eq, match_ordering, ordering_reverse}
 use Rattle.std.specs.Cmp.{IsTotalOrder, on_total}
-use Rattle.std.specs.Cmp.Lexicographic.{slice_cmp, nat_list_cmp_total}
+use Rattle.std.specs.Cmp.Lexicographic.{nat_list_cmp_total}
 use Rattle.std.specs.FinMap.{slice_cmp-IsAntisymmetric, nat_cmp-IsAntisymmetric}
 use Rattle.std.specs.declared.cmp.Ordering.{Ordering}
 use Rattle.std.specs.declared.cmp.Ordering.TheVariants.{Less, Equal, Greater}
@@ -13,7 +12,6 @@ use Rattle.std.proofs.Math.IntN.{+ℤ_assoc, +ℤ_comm, +ℤ_idl, +ℤ_idr}
 use Rattle.rc_terms.specs.declared.term.Term.{Term}
 use Rattle.normal_forms.specs.declared.product.Product.{Product}
 use Rattle.normal_forms.specs.declared.summand.Summand.{Summand}
-use Rattle.normal_forms.specs.Order.{key_of}
 use Rattle.normal_forms.specs.Polynomials.{expanded}
 use Rattle.normal_forms.specs.Sums.{product_of, product_order, Polynomial, added, gathered, present, summed, normal_sum, coefficient}
 use Rattle.normal_forms.proofs.SumValues.{HasKey, AllHaveKeys, added_keys, product_has_key, same_products}

@@ -13,6 +13,7 @@ ghost use Rattle.normal_forms.specs.Polynomials.{expanded, sum_value};
 ghost use Rattle.normal_forms.specs.Sums.{normal_sum, coefficient};
 ghost use Rattle.normal_forms.specs.declared.product.Product.{Product};
 ghost use Rattle.normal_forms.specs.Normal.{normal_term, Names};
+ghost use Rattle.normal_forms.specs.Propositions.{normal_prop};
 
 /// The order of terms is total and transitive, and holds two terms equal only where they are one.
 pub fn terms_are_in_one_order()
@@ -54,4 +55,10 @@ pub fn equal_polynomials_have_one_normal_form()
     ensures { (term other : Term) →
         ((product : Product) → coefficient product (expanded term) ≡ coefficient product (expanded other)) →
         normal_sum term ≡ normal_sum other }
+{}
+
+/// A proposition in normal form holds where the proposition does, in every environment of its names' sorts.
+pub fn normal_props_keep_truth()
+    ensures { (env : Environment) (term : Term) →
+        truth_of (value_of env (normal_prop (sorts_of env) term)) ≡ truth_of (value_of env term) }
 {}

@@ -6,8 +6,8 @@ use std::alloc::Global;
 use std::process::Abort;
 use std::test::Fail;
 
-/// Terms, and their normal forms, each operator behind its operands. A constant comes first, and names come by length and
-/// bytes; a product comes behind its own first factors.
+/// Terms, and their normal forms, each operator behind its operands. A constant comes first, and names come by length
+/// and bytes; a product comes behind its own first factors.
 const NORMAL: [(&str, &str); 40] = [
     ("7", "7"),
     ("x", "x"),
