@@ -7,9 +7,11 @@ pub mod Integers
 pub mod Judgements
 pub mod KeyNodes
 pub mod Keys
+pub mod LocationLaws
 pub mod Negations
 pub mod OneForm
 pub mod Pushes
+pub mod Roots
 pub mod SortedSums
 pub mod StageLaws
 pub mod Stages

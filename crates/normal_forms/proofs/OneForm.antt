@@ -215,13 +215,15 @@ same_polynomials (e ∷ es) (f ∷ fs) s t n m h g same =
 written_factor : (r : Product) (ss : List Summand) → factor_at r (present (gathered [] ss)) ≡ coefficient r ss
 written_factor r ss = factor_present r (gathered [] ss) ∙ factor_gathered r [] ss ∙ +ℤ_idl (coefficient r ss)
 
+pub one_polynomial : (a b : List Summand) → ((product : Product) → coefficient product a ≡ coefficient product b)
+    → present (gathered [] a) ≡ present (gathered [] b)
+one_polynomial a b same =
+    same_polynomials (present (gathered [] a)) (present (gathered [] b))
+    (present_sorted (gathered [] a) (gathered_sorted [] a tt)) (present_sorted (gathered [] b) (gathered_sorted [] b tt))
+    (present_nonzero (gathered [] a)) (present_nonzero (gathered [] b))
+    (present_keys (gathered [] a) (gathered_keys [] a tt)) (present_keys (gathered [] b) (gathered_keys [] b tt))
+    (λ r. written_factor r a ∙ same r ∙ sym (written_factor r b))
+
 pub one_form : (term other : Term) → ((product : Product) → coefficient product (expanded term) ≡ coefficient product (expanded other))
     → normal_sum term ≡ normal_sum other
-one_form term other same =
-    ap summed (same_polynomials (present (gathered [] (expanded term))) (present (gathered [] (expanded other)))
-    (present_sorted (gathered [] (expanded term)) (gathered_sorted [] (expanded term) tt))
-    (present_sorted (gathered [] (expanded other)) (gathered_sorted [] (expanded other) tt))
-    (present_nonzero (gathered [] (expanded term))) (present_nonzero (gathered [] (expanded other)))
-    (present_keys (gathered [] (expanded term)) (gathered_keys [] (expanded term) tt))
-    (present_keys (gathered [] (expanded other)) (gathered_keys [] (expanded other) tt))
-    (λ r. written_factor r (expanded term) ∙ same r ∙ sym (written_factor r (expanded other))))
+one_form term other same = ap summed (one_polynomial (expanded term) (expanded other) same)
