@@ -15,7 +15,7 @@ use Rattle.std.proofs.lemmas.Map.Keys.{sorted_tail}
 use Rattle.rc_terms.specs.declared.term.Term.{Term}
 use Rattle.normal_forms.specs.declared.product.Product.{Product}
 use Rattle.normal_forms.specs.Sums.{Polynomial, product_order, added, present, plus_all, summed, multiple}
-use Rattle.normal_forms.specs.Scanning.{plus_maybe, plus_rest, after_entry}
+use Rattle.normal_forms.specs.Scanning.{plus_maybe, plus_rest, after_entry, is_empty}
 
 taken : (zero : Bool) (sum : Option Term) (p : Product) (k : ℤ) (es : Polynomial)
     → plus_rest (cond zero sum (Some (plus_maybe sum (multiple k p.factors)))) es
@@ -29,6 +29,12 @@ pub entry_taken : (sum : Option Term) (p : Product) (k : ℤ) (es : Polynomial)
     → plus_rest (after_entry sum p k) es ≡ plus_rest sum ((p, k) ∷ es)
 entry_taken None p k es = taken (int_eq k (pos 0)) None p k es
 entry_taken (Some t) p k es = taken (int_eq k (pos 0)) (Some t) p k es
+
+pub entry_left : (p : Product) (k : ℤ) (es : Polynomial) → int_eq k (pos 0) ≡ true → present ((p, k) ∷ es) ≡ present es
+entry_left p k es zero = ap (λ z. cond (not z) ((p, k) ∷ present es) (present es)) zero
+
+pub entry_stays : (p : Product) (k : ℤ) (es : Polynomial) → int_eq k (pos 0) ≡ false → is_empty (present ((p, k) ∷ es)) ≡ false
+entry_stays p k es zero = ap (λ z. is_empty (cond (not z) ((p, k) ∷ present es) (present es))) zero
 
 products_total : IsTotalOrder product_order
 products_total = on_total (λ (p : Product). p.key) nat_list_cmp_total

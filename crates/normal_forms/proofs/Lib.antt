@@ -4,11 +4,14 @@ pub mod Decisions
 pub mod Expands
 pub mod Gathering
 pub mod Integers
+pub mod Judgements
 pub mod KeyNodes
 pub mod Keys
+pub mod LocationLaws
 pub mod Negations
 pub mod OneForm
 pub mod Pushes
+pub mod Roots
 pub mod SortedSums
 pub mod StageLaws
 pub mod Stages

@@ -1,9 +1,8 @@
 -- Where two lists of summands give each product the same factor, they are one polynomial.
-use Rattle.std.proofs.Common.{◌≡◌, ℕ, Bool, true, false, not, cond, List, [], ◌∷◌, map, filter, refl, ap, ◌∙◌, sym, subst, ℤ, pos, ◌+ℤ◌, arith}
-use Rattle.std.specs.List.{concat}
-use Rattle.std.specs.Ordering.{int_eq, is_eq, match_ordering, ordering_reverse, nat_cmp}
+use Rattle.std.proofs.Common.{◌≡◌, ℕ, Bool, true, false, not, cond, List, [], ◌∷◌, refl, ap, ◌∙◌, sym, ℤ, pos, ◌+ℤ◌, arith}
+use Rattle.std.specs.Ordering.{int_eq, is_eq, match_ordering, ordering_reverse}
 use Rattle.std.specs.Cmp.{IsTotalOrder, on_total}
-use Rattle.std.specs.Cmp.Lexicographic.{slice_cmp, nat_list_cmp_total}
+use Rattle.std.specs.Cmp.Lexicographic.{nat_list_cmp_total}
 use Rattle.std.specs.FinMap.{slice_cmp-IsAntisymmetric, nat_cmp-IsAntisymmetric}
 use Rattle.std.specs.declared.cmp.Ordering.{Ordering}
 use Rattle.std.specs.declared.cmp.Ordering.TheVariants.{Less, Equal, Greater}
@@ -13,7 +12,6 @@ use Rattle.std.proofs.Math.IntN.{+ℤ_assoc, +ℤ_comm, +ℤ_idl, +ℤ_idr}
 use Rattle.rc_terms.specs.declared.term.Term.{Term}
 use Rattle.normal_forms.specs.declared.product.Product.{Product}
 use Rattle.normal_forms.specs.declared.summand.Summand.{Summand}
-use Rattle.normal_forms.specs.Order.{key_of}
 use Rattle.normal_forms.specs.Polynomials.{expanded}
 use Rattle.normal_forms.specs.Sums.{product_of, product_order, Polynomial, added, gathered, present, summed, normal_sum, coefficient}
 use Rattle.normal_forms.proofs.SumValues.{HasKey, AllHaveKeys, added_keys, product_has_key, same_products}
@@ -217,13 +215,15 @@ same_polynomials (e ∷ es) (f ∷ fs) s t n m h g same =
 written_factor : (r : Product) (ss : List Summand) → factor_at r (present (gathered [] ss)) ≡ coefficient r ss
 written_factor r ss = factor_present r (gathered [] ss) ∙ factor_gathered r [] ss ∙ +ℤ_idl (coefficient r ss)
 
+pub one_polynomial : (a b : List Summand) → ((product : Product) → coefficient product a ≡ coefficient product b)
+    → present (gathered [] a) ≡ present (gathered [] b)
+one_polynomial a b same =
+    same_polynomials (present (gathered [] a)) (present (gathered [] b))
+    (present_sorted (gathered [] a) (gathered_sorted [] a tt)) (present_sorted (gathered [] b) (gathered_sorted [] b tt))
+    (present_nonzero (gathered [] a)) (present_nonzero (gathered [] b))
+    (present_keys (gathered [] a) (gathered_keys [] a tt)) (present_keys (gathered [] b) (gathered_keys [] b tt))
+    (λ r. written_factor r a ∙ same r ∙ sym (written_factor r b))
+
 pub one_form : (term other : Term) → ((product : Product) → coefficient product (expanded term) ≡ coefficient product (expanded other))
     → normal_sum term ≡ normal_sum other
-one_form term other same =
-    ap summed (same_polynomials (present (gathered [] (expanded term))) (present (gathered [] (expanded other)))
-    (present_sorted (gathered [] (expanded term)) (gathered_sorted [] (expanded term) tt))
-    (present_sorted (gathered [] (expanded other)) (gathered_sorted [] (expanded other) tt))
-    (present_nonzero (gathered [] (expanded term))) (present_nonzero (gathered [] (expanded other)))
-    (present_keys (gathered [] (expanded term)) (gathered_keys [] (expanded term) tt))
-    (present_keys (gathered [] (expanded other)) (gathered_keys [] (expanded other) tt))
-    (λ r. written_factor r (expanded term) ∙ same r ∙ sym (written_factor r (expanded other))))
+one_form term other same = ap summed (one_polynomial (expanded term) (expanded other) same)

@@ -57,7 +57,7 @@ module _ (names : List (List ℕ × Sort)) where
       plus_all_sort (terms.Binary binary.Add t (multiple e.1 e.0.factors)) es
       (node_sort binary.Add t (multiple e.1 e.0.factors) refl h (multiple_sort e.1 e.0.factors all.0)) all.1
 
-  summed_sort : (es : Polynomial) → EntriesAre IsInt es → IsInt (summed es)
+  pub summed_sort : (es : Polynomial) → EntriesAre IsInt es → IsInt (summed es)
   summed_sort [] all = integer_sort (pos 0)
   summed_sort (e ∷ es) all = plus_all_sort (multiple e.1 e.0.factors) es (multiple_sort e.1 e.0.factors all.0) all.1
 

@@ -17,6 +17,7 @@ use Rattle.normal_forms.specs.Normal.{Names, parts_unary, parts_binary, finished
 use Rattle.normal_forms.proofs.Stages.{staged-Variable, staged-Integer, staged-Truth, staged-Null, staged-List, staged-Unary, staged-Binary, staged-Conditional, staged-Update}
 use Rattle.normal_forms.proofs.SortedSums.{normal_sum_sort}
 use Rattle.normal_forms.proofs.WholeSums.{normal_sum_keeps}
+use Rattle.normal_forms.proofs.LocationLaws.{normal_location_sort, normal_location_keeps}
 
 module _ (names : Names) where
   abbrev sort : Term → Option Sort
@@ -27,7 +28,7 @@ module _ (names : Names) where
   finish_sort None inner true e = e
   finish_sort (Some sorts.Int) inner true e = normal_sum_sort names inner e
   finish_sort (Some sorts.Bool) inner true e = e
-  finish_sort (Some sorts.Loc) inner true e = e
+  finish_sort (Some sorts.Loc) inner true e = normal_location_sort names inner e
   finish_sort (Some sorts.List) inner true e = e
   finish_sort (Some sorts.Val) inner true e = e
 
@@ -125,7 +126,7 @@ module _ (env : Environment) where
   finish_value None inner true e = refl
   finish_value (Some sorts.Int) inner true e = normal_sum_keeps env inner e
   finish_value (Some sorts.Bool) inner true e = refl
-  finish_value (Some sorts.Loc) inner true e = refl
+  finish_value (Some sorts.Loc) inner true e = normal_location_keeps env inner e
   finish_value (Some sorts.List) inner true e = refl
   finish_value (Some sorts.Val) inner true e = refl
 

@@ -123,7 +123,7 @@ module _ (names : List (List ℕ × Sort)) (Q : Term → Type 0) (so : (t : Term
   expanded_whole = ind-Term HasWholes (λ x y is. subst (λ z. HasWholes (roll-Term z)) is (node_whole y))
 
 module _ (env : Environment) where
-  number_is_whole : (t : Term) → sort_under (sorts_of env) t ≡ Some sorts.Int → IsWhole env t
+  pub number_is_whole : (t : Term) → sort_under (sorts_of env) t ≡ Some sorts.Int → IsWhole env t
   number_is_whole t s = whole_value (value_of env t) (sort_of_value-value_of env t sorts.Int s)
 
   pub normal_sum_keeps : (term : Term) → sort_under (sorts_of env) term ≡ Some sorts.Int → value_of env (normal_sum term) ≡ value_of env term

@@ -1,5 +1,6 @@
 -- Terms in normal form: every part of the sort of numbers is one sum of multiples of products (the laws of commutative
--- rings). What the laws don't look into keeps its form, with its parts in normal form (this project's own).
+-- rings), and every location a root and one sum. What the laws don't look into keeps its form, with its parts in normal
+-- form (this project's own).
 use Rattle.std.specs.Prelude.{ℕ, Bool, true, false, List, map, Option, Some}
 use Rattle.rc_terms.specs.declared.sort.Sort.{Sort}
 use Rattle.rc_terms.specs.declared.sort.Sort.TheVariants as sorts
@@ -13,6 +14,7 @@ use Rattle.rc_terms.specs.declared.operator.BinaryOperator.{BinaryOperator}
 use Rattle.rc_terms.specs.declared.operator.BinaryOperator.TheVariants.{Add, Subtract, Multiply}
 use Rattle.rc_terms.specs.Sorting.{sort_under}
 use Rattle.normal_forms.specs.Sums.{normal_sum}
+use Rattle.normal_forms.specs.Locations.{normal_location}
 
 -- the sorts of names
 abbrev pub Names : Type 0
@@ -29,9 +31,10 @@ parts_binary Subtract = false
 parts_binary Multiply = false
 parts_binary operator = true
 
--- a term whose parts are in normal form, itself in normal form where its sort is that of numbers
+-- a term whose parts are in normal form, itself in normal form where its sort is that of numbers or of locations
 abbrev pub written_by_sort : Option Sort → Term → Term
 written_by_sort (Some sorts.Int) term = normal_sum term
+written_by_sort (Some sorts.Loc) term = normal_location term
 written_by_sort sort term = term
 
 -- the same, where the term is a whole part; within a sum it stays as it is

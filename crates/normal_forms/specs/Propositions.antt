@@ -1,6 +1,6 @@
--- Propositions in normal form: negations pushed inwards, parts in normal form, and comparisons of literals decided (this
--- project's own).
-use Rattle.std.specs.Prelude.{Bool, true, false, List, map, Option, Some, None, ℤ}
+-- Propositions in normal form: negations pushed inwards, parts in normal form, and comparisons of literals decided
+-- (this project's own).
+use Rattle.std.specs.Prelude.{false, map, Option, Some, None, ℤ}
 use Rattle.rc_terms.specs.declared.term.Term.{Term}
 use Rattle.rc_terms.specs.declared.term.Term.TheOpen.{Term-F}
 use Rattle.rc_terms.specs.declared.term.Term.TheFolds.{fold-Term, para-Term}
@@ -23,7 +23,8 @@ literal = fold-Term (Option ℤ) literal_step
 
 -- a comparison, or what it comes to where both its sides are literals
 abbrev pub compared : BinaryOperator → Option ℤ → Option ℤ → Term → Term
-compared operator (Some a) (Some b) term = terms.Truth (truth_of (binary operator (values.Integer a) (values.Integer b)))
+compared operator (Some a) (Some b) term =
+    terms.Truth (truth_of (binary operator (values.Integer a) (values.Integer b)))
 compared operator a b term = term
 
 -- a part, and the part with its comparisons of literals decided

@@ -1,5 +1,5 @@
 -- What the functions answer inside; nothing here is needed to read what the crate promises.
-use Rattle.std.specs.Prelude.{Option, Some, None, Bool, cond, List, map, ℤ, pos, negsuc}
+use Rattle.std.specs.Prelude.{Option, Some, None, Bool, true, false, cond, List, [], ◌∷◌, map, ℤ, pos, negsuc}
 use Rattle.normal_forms.specs.declared.summand.Summand.{Summand}
 use Rattle.normal_forms.specs.Polynomials.{times}
 use Rattle.std.specs.Ordering.{int_eq}
@@ -27,3 +27,8 @@ after_entry sum product factor =
 -- summands, each with the opposite sign where that is asked for
 abbrev pub signed_sum : Bool → List Summand → List Summand
 signed_sum negative summands = cond negative (map (times (negsuc 0)) summands) summands
+
+-- whether a polynomial has no products
+abbrev pub is_empty : Polynomial → Bool
+is_empty [] = true
+is_empty (entry ∷ more) = false

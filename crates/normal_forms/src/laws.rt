@@ -1,18 +1,21 @@
 //! What is known of the order and of normal forms, as contracts that need no call.
-ghost use Rattle.std.specs.Prelude.{◌≡◌, Bool, not, cond, Some};
+ghost use Rattle.std.specs.Prelude.{◌≡◌, Bool, not, cond, Some, ℤ, ◌+ℤ◌};
 ghost use Rattle.std.specs.Cmp.{IsTotalOrder};
 ghost use Rattle.std.specs.declared.cmp.Ordering.TheVariants.{Equal};
 ghost use Rattle.rc_terms.specs.declared.term.Term.{Term};
 ghost use Rattle.rc_terms.specs.declared.sort.Sort.TheVariants as sorts;
-ghost use Rattle.rc_terms.specs.Operators.{truth_of, number_of};
+ghost use Rattle.rc_terms.specs.declared.location.Loc.{Loc};
+ghost use Rattle.rc_terms.specs.Operators.{truth_of, number_of, offset_by};
 ghost use Rattle.rc_terms.specs.Sorting.{sort_under, sorts_of};
 ghost use Rattle.rc_terms.specs.Evaluation.{Environment, value_of};
 ghost use Rattle.normal_forms.specs.Order.{term_order};
 ghost use Rattle.normal_forms.specs.Negation.{pushed};
 ghost use Rattle.normal_forms.specs.Polynomials.{expanded, sum_value};
 ghost use Rattle.normal_forms.specs.Sums.{normal_sum, coefficient};
+ghost use Rattle.normal_forms.specs.Locations.{root, offset, normal_location};
 ghost use Rattle.normal_forms.specs.declared.product.Product.{Product};
 ghost use Rattle.normal_forms.specs.Normal.{normal_term, Names};
+ghost use Rattle.normal_forms.specs.Propositions.{normal_prop};
 
 /// The order of terms is total and transitive, and holds two terms equal only where they are one.
 pub fn terms_are_in_one_order()
@@ -54,4 +57,22 @@ pub fn equal_polynomials_have_one_normal_form()
     ensures { (term other : Term) →
         ((product : Product) → coefficient product (expanded term) ≡ coefficient product (expanded other)) →
         normal_sum term ≡ normal_sum other }
+{}
+
+/// A proposition in normal form holds where the proposition does, in every environment of its names' sorts.
+pub fn normal_props_keep_truth()
+    ensures { (env : Environment) (term : Term) →
+        truth_of (value_of env (normal_prop (sorts_of env) term)) ≡ truth_of (value_of env term) }
+{}
+
+/// A location that is moved by one number and then by another is moved by their sum.
+pub fn offsets_add_up()
+    ensures { (location : Loc) (a b : ℤ) → offset_by (offset_by location a) b ≡ offset_by location (a +ℤ b) }
+{}
+
+/// Locations of one root, to which equal polynomials are added, have one normal form.
+pub fn equal_locations_have_one_normal_form()
+    ensures { (term other : Term) → root term ≡ root other →
+        ((product : Product) → coefficient product (offset term) ≡ coefficient product (offset other)) →
+        normal_location term ≡ normal_location other }
 {}

@@ -6,6 +6,7 @@ mod expansion;
 mod failure;
 mod key;
 mod laws;
+mod location;
 mod negation;
 mod normal;
 mod order;
@@ -16,11 +17,11 @@ mod sum;
 mod summand;
 
 pub use laws::{
-    equal_polynomials_have_one_normal_form, expanding_keeps_values, normal_sums_keep_values,
-    normal_terms_keep_sorts, normal_terms_keep_values, pushing_negations_keeps_truth,
-    terms_are_in_one_order,
+    equal_locations_have_one_normal_form, equal_polynomials_have_one_normal_form,
+    expanding_keeps_values, normal_props_keep_truth, normal_sums_keep_values,
+    normal_terms_keep_sorts, normal_terms_keep_values, offsets_add_up,
+    pushing_negations_keeps_truth, terms_are_in_one_order,
 };
-pub use negation::pushed;
 pub use normal::normal_term;
 pub use order::compare_terms;
 pub use proposition::normal_prop;

@@ -7,6 +7,7 @@ ghost use Rattle.normal_forms.specs.Normal.{finished, staged as staged_term, nor
 ghost use Rattle.normal_forms.specs.Normal.{parts_unary as unary_parts, parts_binary as binary_parts};
 
 use crate::failure::Failure;
+use crate::location::written_location;
 use crate::sum::written;
 use rc_terms::{
     BinaryOperator, Sort, Sorts, Term, TermRefusal, UnaryOperator, is_within_limit, sort_of,
@@ -16,7 +17,8 @@ use sqlite_items::Items;
 use std::alloc::{AllocError, Global};
 
 /// The term in normal form, under the sorts of its names: each part of the sort of numbers is one sum of multiples of
-/// products, with like products added up and in order. `Width` comes where a number on the way leaves 128 bits.
+/// products, with like products added up and in order, and each location is a root plus one such sum. `Width` comes
+/// where a number on the way leaves 128 bits.
 pub fn normal_term(alloc: Global, term: &Term, sorts: &Sorts) -> Result<Term, TermRefusal>
     ensures value { IfOk result (λ normal. normal ≡ normal_of sorts.now term.now) }
     ensures within { OnOk result (nodes (normal_of sorts.now term.now) ≤ most_nodes) }
@@ -94,6 +96,7 @@ fn finish(
     }
     match sort_of(term, sorts) {
         Some(Sort::Int) => written(alloc, &inner),
+        Some(Sort::Loc) => written_location(alloc, &inner),
         _ => Ok(inner),
     }
 }

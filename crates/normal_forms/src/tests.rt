@@ -6,9 +6,9 @@ use std::alloc::Global;
 use std::process::Abort;
 use std::test::Fail;
 
-/// Terms, and their normal forms, each operator behind its operands. A constant comes first, and names come by length and
-/// bytes; a product comes behind its own first factors.
-const NORMAL: [(&str, &str); 40] = [
+/// Terms, and their normal forms, each operator behind its operands. A constant comes first, and names come by length
+/// and bytes; a product comes behind its own first factors. A location comes before the one sum that is added to it.
+const NORMAL: [(&str, &str); 57] = [
     ("7", "7"),
     ("x", "x"),
     ("x y +", "x y +"),
@@ -49,15 +49,34 @@ const NORMAL: [(&str, &str); 40] = [
     ("t x x + y if", "t 2 x * y if"),
     ("x x - y <", "0 y <"),
     ("l len l len +", "2 l len *"),
+    ("p", "p"),
+    ("p 0 +", "p"),
+    ("p 8 +", "p 8 +"),
+    ("p 4 + 4 +", "p 8 +"),
+    ("p 4 + 4 -1 * +", "p"),
+    ("p x + 4 +", "p 4 x + +"),
+    ("p x 4 + +", "p 4 x + +"),
+    ("p 4 + x +", "p 4 x + +"),
+    ("p y + x +", "p x y + +"),
+    ("p x + x neg +", "p"),
+    ("p x + x +", "p 2 x * +"),
+    ("p x 1 + 2 * + y x * +", "p 2 2 x * + x y * + +"),
+    ("t p q if 4 + x + 4 +", "t p q if 8 x + +"),
+    ("t p 4 + 4 + q if", "t p 8 + q if"),
+    ("t p 4 + 4 + q if 1 + 1 +", "t p 8 + q if 2 +"),
+    ("p 4 + 4 + q x + 1 + =", "p 8 + q 1 x + + ="),
+    ("p 4 + 4 + 8 aligned", "p 8 + 8 aligned"),
 ];
 
-const BINARY: [(BinaryOperator, &str); 6] = [
+const BINARY: [(BinaryOperator, &str); 8] = [
     (BinaryOperator::Add, "+"),
     (BinaryOperator::Subtract, "-"),
     (BinaryOperator::Multiply, "*"),
     (BinaryOperator::Quotient, "quot"),
     (BinaryOperator::Element, "nth"),
     (BinaryOperator::Below, "<"),
+    (BinaryOperator::Equal, "="),
+    (BinaryOperator::Aligned, "aligned"),
 ];
 
 fn popped(alloc: Global, stack: &mut Vec<Term>) -> Result<Shared<Term>, Fail> {
@@ -101,7 +120,7 @@ fn term(alloc: Global, text: &str) -> Result<Term, Fail> {
     Ok(stack.pop().ok_or("no term")?)
 }
 
-/// `x`, `y`, `z`, `n` are numbers, `t` a truth value, `l` a list.
+/// `x`, `y`, `z`, `n` are numbers, `t` a truth value, `l` a list, `p` and `q` locations.
 fn sorts(alloc: Global) -> Result<Sorts, Fail> {
     let mut sorts = Sorts::new(alloc);
     for name in ["x", "y", "z", "n"] {
@@ -109,6 +128,8 @@ fn sorts(alloc: Global) -> Result<Sorts, Fail> {
     }
     sorts.bind(Name::from_str(alloc, "t")?, Sort::Bool)?;
     sorts.bind(Name::from_str(alloc, "l")?, Sort::List)?;
+    sorts.bind(Name::from_str(alloc, "p")?, Sort::Loc)?;
+    sorts.bind(Name::from_str(alloc, "q")?, Sort::Loc)?;
     Ok(sorts)
 }
 

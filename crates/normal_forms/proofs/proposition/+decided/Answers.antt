@@ -1,4 +1,4 @@
-use Rattle.std.proofs.Common.{◌≡◌, ap, ◌∙◌, sym}
+use Rattle.std.proofs.Common.{ap, ◌∙◌, sym}
 use Rattle.rc_terms.specs.declared.term.Term.TheVariants as terms
 use Rattle.normal_forms.specs.Propositions.{decided, literal, compared}
 use Rattle.normal_forms.proofs.Stages.{gives}
