@@ -91,7 +91,7 @@ module _ (limit : ℕ) (expression : ℕ → Reader Expr) (s : SoundExpressions 
   is_void types.Void e = refl
   is_void _ e = absurd (false≢true e)
 
-  parameters-sound : (from : Input) (list : List Parameter) (to : Input) → declarations.parameter_list expression from ≡ Some (list, to)
+  pub parameters-sound : (from : Input) (list : List Parameter) (to : Input) → declarations.parameter_list expression from ≡ Some (list, to)
       → Parameters from list to
   unfolding declarations.parameter_list declarations.void_alone
   parameters-sound from list to e = into_onward (declarations.parameters_from expression (turns from) from) _ _ e λ found rest p more.

@@ -18,3 +18,6 @@ mod Unique
 mod DeclarationsSound
 mod StatementsSound
 mod FilesSound
+pub mod Kept
+pub mod DeclarationsKept
+pub mod StatementsKept

@@ -75,13 +75,13 @@ module _ (limit : ℕ) (expression : ℕ → Reader Expr) (s : SoundExpressions 
       rw (← parts.0, ← parts.1) (label.before others end (labels-sound left rest others end o)))
       (λ known same. let parts = some_pair_parts (one ∷ []) list rest to same in rw (← parts.0, ← parts.1) label.alone)
 
-  tested-sound : (from : Input) (tree : Expr) (to : Input) → statements.tested expression from ≡ Some (tree, to) → Tested from tree to
+  pub tested-sound : (from : Input) (tree : Expr) (to : Input) → statements.tested expression from ≡ Some (tree, to) → Tested from tree to
   unfolding statements.tested
   tested-sound from tree to e = into_past _ _ _ e λ inner o found. into_onward (expression 0 inner) _ _ found λ t close k more.
       into_past _ _ _ more λ end c same. let parts = some_pair_parts t tree end to same in
       rw (← parts.0, ← parts.1) (grammar.Tested.tested o (s.sound 0 inner t close k).0 c)
 
-  optional-sound : (p : Punctuator) (from : Input) (tree : Option Expr) (to : Input) → statements.optional expression p from ≡ Some (tree, to)
+  pub optional-sound : (p : Punctuator) (from : Input) (tree : Option Expr) (to : Input) → statements.optional expression p from ≡ Some (tree, to)
       → Optional from tree to
   unfolding statements.optional
   optional-sound p from tree to e = into_either (mark p from) _ _ _ e
@@ -89,7 +89,7 @@ module _ (limit : ℕ) (expression : ℕ → Reader Expr) (s : SoundExpressions 
       rw (← parts.0, ← parts.1) (grammar.Optional.given (s.sound 0 from t end k).0))
       (λ end m same. let parts = some_pair_parts None tree from to same in rw (← parts.0, ← parts.1) grammar.Optional.missing)
 
-  begun-sound : (from : Input) (init : ForInit) (to : Input) → statements.begun expression from ≡ Some (init, to) → Begun from init to
+  pub begun-sound : (from : Input) (init : ForInit) (to : Input) → statements.begun expression from ≡ Some (init, to) → Begun from init to
   unfolding statements.begun statements.begun_declaration statements.begun_expression
   begun-sound from init to e = into_either (mark marks.Semicolon from) _ _ _ e
       (λ none found. into_onward (reading.attributes from) _ _ found λ list behind a more. into_if (begins_type behind) _ _ _ more
@@ -119,7 +119,7 @@ module _ (limit : ℕ) (expression : ℕ → Reader Expr) (s : SoundExpressions 
         let parts = some_pair_parts (stated place list attributes kind) tree end to same in
         rw (← parts.1) (record { place = place; placed = p; kind = kind; related = k position behind kind end o; same = parts.0 })
 
-    statement-sound : (position : Position) (from : Input) (tree : Stmt) (to : Input)
+    pub statement-sound : (position : Position) (from : Input) (tree : Stmt) (to : Input)
         → statements.statement expression inner_kind position from ≡ Some (tree, to) → Statement position from tree to
     unfolding statements.statement
     statement-sound position from tree to e = into_onward (reading.attributes from) _ _ e λ list behind a found.
@@ -141,7 +141,7 @@ module _ (limit : ℕ) (expression : ℕ → Reader Expr) (s : SoundExpressions 
         (λ known more. let parts = behind-sound position [] list behind tree to more in
         rw (← parts.same) (inr (grammar.Statement.statement (attributes-sound from list behind a) parts.placed parts.related)))
 
-    children-sound : (position : Position) (left : ℕ) (from : Input) (list : List Stmt) (to : Input)
+    pub children-sound : (position : Position) (left : ℕ) (from : Input) (list : List Stmt) (to : Input)
         → statements.children_from expression inner_kind position left from ≡ Some (list, to) → Children position from list to
     unfolding statements.children_from ChildIs
     children-sound position zero from list to e = absurd (none-some _ e)
@@ -167,7 +167,7 @@ module _ (limit : ℕ) (expression : ℕ → Reader Expr) (s : SoundExpressions 
         (λ known found. ⊎_elim (λ d. grammar.Cases.declared_case d behind) (λ t. grammar.Cases.stated_case t behind)
         (child-sound position from one rest found))
 
-    cases-sound : (position : Position) (left : ℕ) (from : Input) (list : List Stmt) (to : Input)
+    pub cases-sound : (position : Position) (left : ℕ) (from : Input) (list : List Stmt) (to : Input)
         → statements.cases_from expression inner_kind position left from ≡ Some (list, to) → Cases position from list to
     unfolding statements.cases_from
     cases-sound position zero from list to e = absurd (none-some _ e)
@@ -178,7 +178,7 @@ module _ (limit : ℕ) (expression : ℕ → Reader Expr) (s : SoundExpressions 
         rw (← parts.0, ← parts.1) (case_child-sound position from one rest others end c (cases-sound position left rest others end o)))
         (λ end m same. let parts = some_pair_parts [] list end to same in rw (← parts.0, ← parts.1) (grammar.Cases.no_case m))
 
-    switch-sound : (position : Position) (from : Input) (tree : Stmt) (to : Input)
+    pub switch-sound : (position : Position) (from : Input) (tree : Stmt) (to : Input)
         → statements.switch_body expression inner_kind position from ≡ Some (tree, to) → SwitchBody position from tree to
     unfolding statements.switch_body
     switch-sound position from tree to e = into_onward (reading.attributes from) _ _ e λ list behind a found. into _ (place_of behind) _ found λ place p more.

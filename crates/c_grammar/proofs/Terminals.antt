@@ -65,7 +65,7 @@ identifier-turns from named e = into _ (next from) named e λ taken is found.
     (λ _ some. ap (λ (n : Named). suc (turns n.rest)) (sym (same_Some _ named some)) ∙ next-turns from taken is)
     (λ _ none. absurd (none-some named none))
 
-text_by-rest : (kind : TokenKind) (token : Token) (rest : Input) (read : ReadText) → text_by kind token rest ≡ Some read
+pub text_by-rest : (kind : TokenKind) (token : Token) (rest : Input) (read : ReadText) → text_by kind token rest ≡ Some read
     → rest ≡ read.rest
 text_by-rest kinds.StringLiteral token rest read e = ap (λ (r : ReadText). r.rest) (same_Some _ read e)
 text_by-rest _ token rest read e = absurd (none-some read e)
@@ -76,7 +76,7 @@ string-turns from read e = into _ (next from) read e λ taken is found.
     ap (λ (i : Input). suc (turns i)) (sym (text_by-rest taken.token.kind taken.token taken.rest read found))
     ∙ next-turns from taken is
 
-word_by-rest : (test : Keyword → Bool) (kind : TokenKind) (rest : Input) (taken : TakenWord) → word_by test kind rest ≡ Some taken
+pub word_by-rest : (test : Keyword → Bool) (kind : TokenKind) (rest : Input) (taken : TakenWord) → word_by test kind rest ≡ Some taken
     → rest ≡ taken.rest
 word_by-rest test (kinds.Keyword w) rest taken e = into_if (test w) _ _ taken e
     (λ _ some. ap (λ (r : TakenWord). r.rest) (same_Some _ taken some)) (λ _ none. absurd (none-some taken none))
