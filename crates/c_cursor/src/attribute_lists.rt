@@ -150,10 +150,7 @@ fn group(alloc: Global, cursor: &mut Cursor<'_>) -> Result<Items<Attribute>, Par
 }
 
 /// All attributes that stand next, as one list.
-pub fn attributes(
-    alloc: Global,
-    cursor: &mut Cursor<'_>,
-) -> Result<Items<Attribute>, ParseRefusal>
+pub fn attributes(alloc: Global, cursor: &mut Cursor<'_>) -> Result<Items<Attribute>, ParseRefusal>
     ensures { Reads (attributes cursor.old) result cursor.new }
 {
     let mut found = Items::new(alloc);

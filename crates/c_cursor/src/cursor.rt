@@ -307,12 +307,7 @@ impl<'a> Cursor<'a> {
     }
 
     /// Brings a name into scope.
-    pub fn declare(
-        &mut self,
-        alloc: Global,
-        name: &[u8],
-        kind: NameKind,
-    ) -> Result<(), NoMemory>
+    pub fn declare(&mut self, alloc: Global, name: &[u8], kind: NameKind) -> Result<(), NoMemory>
         ensures { IfOk result (λ _. self.new ≡ declares self.old name.now kind) }
     {
         self.names.declare(alloc, name, kind)
@@ -380,8 +375,7 @@ impl<'a> Cursor<'a> {
         match (self.peek(), self.second()) {
             (Some(token), Some(second))
                 if is_mark(Punctuator::OpenParenthesis, token.kind)
-                    && is_mark(Punctuator::Star, second.kind) =>
-            {
+                    && is_mark(Punctuator::Star, second.kind) => {
                 refusal(token.place, Some(LeftOut::FunctionPointer))
             }
             _ => self.unexpected(),

@@ -19,8 +19,8 @@ pub use attribute_lists::{attributes, name};
 pub use cursor::{Cursor, FirstToken, Identifier, Quoted};
 pub use deep::{DEPTH_LIMIT, Deep, deeper};
 pub use infix::{
-    ASSIGNMENT_LEVEL, CAST_LEVEL, COMMA_LEVEL, CONDITIONAL_LEVEL, Infix, POSTFIX_LEVEL, UNARY_LEVEL, binary_level,
-    logical_level,
+    ASSIGNMENT_LEVEL, CAST_LEVEL, COMMA_LEVEL, CONDITIONAL_LEVEL, Infix, POSTFIX_LEVEL,
+    UNARY_LEVEL, binary_level, logical_level,
 };
 pub use integers::{has_integer_word, integer_type, modifiers};
 pub use left_out::LeftOut;
