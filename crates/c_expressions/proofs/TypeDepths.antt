@@ -70,23 +70,32 @@ depth-Implicit name = search (rules, the_lemmas)
 
 pub depth-Enumeration : (attributes : List Attribute) (tag : Option Name) (es : List Enumerator)
     → specifier_depth (specifiers.EnumDefinition (roll-EnumDefinition (record {
-        attributes = attributes; tag = tag; enumerators = es })))
+      attributes = attributes;
+      tag = tag;
+      enumerators = es;
+    })))
     ≡ 1 + enumerators_depth es
 depth-Enumeration attributes tag es = search (rules, the_lemmas)
 
 pub depth-Integer-type : (type : IntegerType) → specifier_depth (specifiers.Integer type) ≡ 1
 depth-Integer-type type = search (rules, the_lemmas)
+
 pub depth-Void : specifier_depth specifiers.Void ≡ 1
 depth-Void = search (rules, the_lemmas)
+
 pub depth-Bool : specifier_depth specifiers.Bool ≡ 1
 depth-Bool = search (rules, the_lemmas)
+
 pub depth-Typedef : (text : List ℕ) → specifier_depth (specifiers.Typedef text) ≡ 1
 depth-Typedef text = search (rules, the_lemmas)
+
 pub depth-Header : (type : HeaderType) → specifier_depth (specifiers.Header type) ≡ 1
 depth-Header type = search (rules, the_lemmas)
+
 pub depth-Record : (kind : RecordKind) (attributes : List Attribute) (tag : Name)
     → specifier_depth (specifiers.Record kind attributes tag) ≡ 1
 depth-Record kind attributes tag = search (rules, the_lemmas)
+
 pub depth-Enum : (attributes : List Attribute) (tag : Name) → specifier_depth (specifiers.Enum attributes tag) ≡ 1
 depth-Enum attributes tag = search (rules, the_lemmas)
 

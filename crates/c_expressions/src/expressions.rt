@@ -1,28 +1,31 @@
 //! Expressions (C11 6.5), from the first operand on: each operator by how tightly it binds.
 ghost use Rattle.std.specs.Prelude.{◌≡◌, suc};
-ghost use Rattle.c_syntax.specs.Depth.{expression_depth};
+ghost use Rattle.c_syntax.specs.Depth.{expression_depth, specifier_depth};
 ghost use Rattle.c_grammar.specs.Expressions.{node};
 ghost use Rattle.c_grammar.specs.Operators.{comma_level, postfix_level};
 ghost use Rattle.c_grammar.specs.Reading.{nested, turns, made, arguments_from, arguments, call, parenthesized, cast};
 ghost use Rattle.c_grammar.specs.Reading.{of_type, operand, size_of, begun_by, begun, joined, conditional, subscript};
-ghost use Rattle.c_grammar.specs.Reading.{member, grown, climb, expression_with};
+ghost use Rattle.c_grammar.specs.Reading.{member, grown, climb, expression_with, specified, single_by, lengths};
 ghost use Rattle.c_grammar.specs.Operators as operators;
 ghost use Rattle.c_syntax.specs.declared.expr.ExprKind.TheVariants as kinds;
 ghost use Rattle.c_cursor.specs.Deep.{IsDeep, ReadsDeep};
-ghost use Rattle.c_expressions.specs.Parts.{ReadsBegun, reader};
+ghost use Rattle.c_expressions.specs.Parts.{ReadsBegun, ReadsSpecified, reader, lengths_depth};
 ghost use Rattle.c_expressions.specs.Nests.{Nests};
 ghost use Rattle.c_expressions.specs.Nodes.{before_kind, before_level, of_type_kind, call_kind, member_kind};
 ghost use Rattle.c_expressions.specs.Nodes.{joint_kind, joint_level, right_level, expressions_depth};
 ghost use Rattle.c_cursor.specs.Reads.{IsRefusal};
-ghost use Rattle.c_cursor.specs.Starts.{start_seen, infix_seen};
+ghost use Rattle.c_cursor.specs.Starts.{start_seen, infix_seen, type_seen};
 
-use crate::parts::{Begun};
-use c_cursor::{ASSIGNMENT_LEVEL, CAST_LEVEL, COMMA_LEVEL, CONDITIONAL_LEVEL, Cursor, DEPTH_LIMIT, Deep, Infix, POSTFIX_LEVEL, ParseRefusal, Start, UNARY_LEVEL};
 use crate::grammar::Grammar;
 use crate::nodes;
 use crate::nodes::{Before, Callee, Joint, MemberOf, OfType};
+use crate::parts::{Begun, Specified};
+use c_cursor::{
+    ASSIGNMENT_LEVEL, CAST_LEVEL, COMMA_LEVEL, CONDITIONAL_LEVEL, Cursor, DEPTH_LIMIT, Deep, Infix,
+    POSTFIX_LEVEL, ParseRefusal, Start, TypeStart, UNARY_LEVEL,
+};
 use c_lexer::Punctuator;
-use c_syntax::{Expr, ExprKind, IncrementOperator};
+use c_syntax::{Expr, ExprKind, IncrementOperator, TypeSpecifier};
 use rc_text::{Bytes, Place};
 use sqlite_items::{Boxed, Items};
 use std::alloc::Global;
@@ -59,14 +62,12 @@ fn named(
     primary(alloc, cursor, place, ExprKind::Name(text))
 }
 
-impl<'g, F: Fn(Global, &mut Cursor<'_>, usize, u8) -> Result<Deep<Boxed<Expr>>, ParseRefusal>>
-    Grammar<'g, F>
-{
+impl<
+    'g,
+    F: Fn(Global, &mut Cursor<'_>, usize, u8) -> Result<Deep<Boxed<Expr>>, ParseRefusal>,
+> Grammar<'g, F> {
     /// Arguments with commas between them, and the closing parenthesis.
-    fn arguments_inside(
-        &self,
-        cursor: &mut Cursor<'_>,
-    ) -> Result<Deep<Items<Expr>>, ParseRefusal>
+    fn arguments_inside(&self, cursor: &mut Cursor<'_>) -> Result<Deep<Items<Expr>>, ParseRefusal>
         requires { Nests self.now.room (F.pre self.now.read.now) (F.post self.now.read.now) }
         ensures { ReadsDeep expressions_depth (arguments_from 200 (nested 200 self.now.room) (turns cursor.old) cursor.old) result cursor.new }
     {
@@ -119,11 +120,7 @@ impl<'g, F: Fn(Global, &mut Cursor<'_>, usize, u8) -> Result<Deep<Boxed<Expr>>, 
     }
 
     #[tactic(auto, unfolding(c_grammar::specs::Reading::parenthesized, c_grammar::specs::Reading::made))]
-    fn parenthesized(
-        &self,
-        cursor: &mut Cursor<'_>,
-        place: Place,
-    ) -> Result<Begun, ParseRefusal>
+    fn parenthesized(&self, cursor: &mut Cursor<'_>, place: Place) -> Result<Begun, ParseRefusal>
         requires { Nests self.now.room (F.pre self.now.read.now) (F.post self.now.read.now) }
         ensures { ReadsBegun (parenthesized 200 (nested 200 self.now.room) place cursor.old) result cursor.new }
     {
@@ -464,17 +461,6 @@ fn nested_expression(
     .whole(cursor, level)
 }
 
-/// The reader of what may nest in a declaration or a statement.
-macro_rules! outermost {
-    ($alloc:expr) => {
-        Grammar {
-            alloc: $alloc,
-            room: DEPTH_LIMIT,
-            read: &nested_expression,
-        }
-    };
-}
-
 /// The expression of the category that stands next, with its depth.
 ///
 /// # Errors
@@ -495,7 +481,12 @@ pub fn expression(
 pub fn specified(alloc: Global, cursor: &mut Cursor<'_>) -> Result<Specified, ParseRefusal>
     ensures { ReadsSpecified (specified (reader 200) cursor.old) result cursor.new }
 {
-    outermost!(alloc).specified(cursor)
+    Grammar {
+        alloc,
+        room: DEPTH_LIMIT,
+        read: &nested_expression,
+    }
+    .specified(cursor)
 }
 
 /// The type that begins with this token, behind it; the refusal stands at it.
@@ -508,12 +499,22 @@ pub fn single_by(
     requires { IsRefusal otherwise }
     ensures { ReadsDeep specifier_depth (single_by (reader 200) (type_seen start.entry) cursor.old) result cursor.new }
 {
-    outermost!(alloc).single_by(cursor, start, otherwise)
+    Grammar {
+        alloc,
+        room: DEPTH_LIMIT,
+        read: &nested_expression,
+    }
+    .single_by(cursor, start, otherwise)
 }
 
 /// The array lengths behind a declarator, each between brackets.
 pub fn lengths(alloc: Global, cursor: &mut Cursor<'_>) -> Result<Deep<Items<Expr>>, ParseRefusal>
     ensures { ReadsDeep lengths_depth (lengths (reader 200) cursor.old) result cursor.new }
 {
-    outermost!(alloc).lengths(cursor)
+    Grammar {
+        alloc,
+        room: DEPTH_LIMIT,
+        read: &nested_expression,
+    }
+    .lengths(cursor)
 }

@@ -11,3 +11,6 @@ mod types;
 
 pub use expressions::{expression, lengths, single_by, specified};
 pub use parts::{Begun, Specified};
+
+#[cfg(test)]
+mod tests;

@@ -11,7 +11,10 @@ ghost use Rattle.c_expressions.specs.Nodes.{joint_kind, joint_level, right_level
 ghost use Rattle.c_cursor.specs.Cursor.{name_seen};
 ghost use Rattle.c_cursor.specs.Reads.{Keeps};
 
-use c_cursor::{ASSIGNMENT_LEVEL, CAST_LEVEL, COMMA_LEVEL, Deep, Identifier, ParseRefusal, UNARY_LEVEL, binary_level, deeper, logical_level};
+use c_cursor::{
+    ASSIGNMENT_LEVEL, CAST_LEVEL, COMMA_LEVEL, Deep, Identifier, ParseRefusal, UNARY_LEVEL,
+    binary_level, deeper, logical_level,
+};
 use c_lexer::AtomicOperation;
 use c_syntax::{
     AssignmentOperator, BinaryOperator, Expr, ExprKind, IncrementOperator, LogicalOperator,

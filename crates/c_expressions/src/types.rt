@@ -16,9 +16,13 @@ ghost use Rattle.c_expressions.specs.Nests.{Nests};
 ghost use Rattle.c_cursor.specs.Reads.{IsRefusal};
 ghost use Rattle.c_cursor.specs.Starts.{type_seen};
 
-use crate::parts::{Specified};
-use c_cursor::{CONDITIONAL_LEVEL, Cursor, DEPTH_LIMIT, Deep, ParseRefusal, TypeStart, WordTest, attributes, has_integer_word, integer_type, is_integer_word, is_modifier, is_qualifier, modifiers, name, pointers, words};
 use crate::grammar::Grammar;
+use crate::parts::Specified;
+use c_cursor::{
+    CONDITIONAL_LEVEL, Cursor, DEPTH_LIMIT, Deep, ParseRefusal, TypeStart, WordTest, attributes,
+    has_integer_word, integer_type, is_integer_word, is_modifier, is_qualifier, modifiers, name,
+    pointers, words,
+};
 use c_grammar::NameKind;
 use c_lexer::{Keyword, Punctuator, Token, TokenKind};
 use c_syntax::{
@@ -38,9 +42,10 @@ fn all_qualifiers(words: &[Keyword]) -> bool
     words.iter().all(|word| is_qualifier(*word))
 }
 
-impl<'g, F: Fn(Global, &mut Cursor<'_>, usize, u8) -> Result<Deep<Boxed<Expr>>, ParseRefusal>>
-    Grammar<'g, F>
-{
+impl<
+    'g,
+    F: Fn(Global, &mut Cursor<'_>, usize, u8) -> Result<Deep<Boxed<Expr>>, ParseRefusal>,
+> Grammar<'g, F> {
     /// Array lengths, each between brackets.
     pub(crate) fn lengths(&self, cursor: &mut Cursor<'_>) -> Result<Deep<Items<Expr>>, ParseRefusal>
         requires { Nests self.now.room (F.pre self.now.read.now) (F.post self.now.read.now) }
@@ -54,7 +59,7 @@ impl<'g, F: Fn(Global, &mut Cursor<'_>, usize, u8) -> Result<Deep<Boxed<Expr>>, 
             }
             let length = self.expression(cursor, CONDITIONAL_LEVEL)?;
             cursor.expect(Punctuator::CloseBracket)?;
-            depth = further(length.depth, tree.len().saturating_add(1)).max(depth);
+            depth = one_more(further(length.depth, tree.len())).max(depth);
             tree.push(length.tree.into_inner())?;
         }
         Err(cursor.unexpected())
