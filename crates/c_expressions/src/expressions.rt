@@ -351,6 +351,7 @@ impl<
         }
     }
 
+    #[tactic(auto, unfolding(c_grammar::specs::Reading::made))]
     fn step(
         &self,
         cursor: &Cursor<'_>,
