@@ -1,3 +1,4 @@
 pub mod Depths
 pub mod TypeDepths
-pub mod Types
+pub mod TypeSteps
+pub mod Nested

@@ -1,5 +1,5 @@
 -- What reads expressions and the types in them answers, with depths (inner).
-use Rattle.std.specs.Prelude.{◌≡◌, ℕ, ◌<◌, ◌≤◌, List, map, Option, Some, None, Result, Ok, Err}
+use Rattle.std.specs.Prelude.{◌≡◌, ℕ, ◌<◌, ◌≤◌, List, ◌++◌, map, Option, Some, None, Result, Ok, Err}
 use Rattle.rc_text.specs.declared.place.Place.{Place}
 use Rattle.c_lexer.specs.declared.keyword.Keyword.{Keyword}
 use Rattle.c_syntax.specs.declared.expr.Expr.{Expr}
@@ -10,8 +10,9 @@ use Rattle.c_syntax.specs.Depth.{expression_depth, specifier_depth, deepest, arr
 use Rattle.c_grammar.specs.Depths.{enumerator_depth}
 use Rattle.c_grammar.specs.Input.{Input}
 use Rattle.c_grammar.specs.Expressions.{node}
-use Rattle.c_grammar.specs.Reading.{Reading, Reader, nested}
+use Rattle.c_grammar.specs.Reading.{Reading, Reader, nested, onward, words, single_type}
 use Rattle.c_grammar.specs.Reading as reading
+use Rattle.c_grammar.specs.Specifiers.{is_modifier}
 use Rattle.c_cursor.specs.declared.deep.Deep.{Deep}
 use Rattle.c_cursor.specs.declared.refusal.ParseRefusal.{ParseRefusal}
 use Rattle.c_cursor.specs.Deep.{IsDeep}
@@ -41,6 +42,11 @@ abbrev pub ReadsSpecified : Reading (List Keyword × TypeSpecifier) → Result S
 ReadsSpecified reading (Ok found) new =
     (reading ≡ Some ((found.words, found.specifier.tree), new)) × IsDeep specifier_depth found.specifier
 ReadsSpecified reading (Err refusal) new = OnlyWhere (reading ≡ None) refusal
+
+-- a type that is no integer type, behind these words, with the modifiers behind it
+abbrev pub among : (ℕ → Reader Expr) → List Keyword → Reader (List Keyword × TypeSpecifier)
+among expression before from = onward (single_type expression from) λ specifier rest.
+    onward (words is_modifier rest) λ after to. Some ((before ++ after, specifier), to)
 
 -- the depth of the constants of an enumeration
 abbrev pub enumerators_depth : List Enumerator → ℕ

@@ -7,7 +7,7 @@ ghost use Rattle.c_grammar.specs.Reading.{nested, turns, lengths, constant, enum
 ghost use Rattle.c_grammar.specs.Reading.{enum_type, record_type, single_by, single_type, specified, type_named};
 ghost use Rattle.c_grammar.specs.Specifiers.{is_qualifier, is_modifier, integer_type};
 ghost use Rattle.c_cursor.specs.Deep.{ReadsDeep};
-ghost use Rattle.c_expressions.specs.Parts.{ReadsSpecified, reader, enumerators_depth, lengths_depth};
+ghost use Rattle.c_expressions.specs.Parts.{ReadsSpecified, among, reader, enumerators_depth, lengths_depth};
 ghost use Rattle.c_cursor.specs.Deep.{IsDeep, KeepsDeep};
 ghost use Rattle.c_syntax.specs.declared.specifier.TypeSpecifier.TheVariants as specifiers;
 ghost use Rattle.c_grammar.specs.Expressions.{type_name};
@@ -221,7 +221,7 @@ impl<
     }
 
     /// A type of one word or one definition.
-    #[tactic(auto, using(crate::proofs::TypeDepths::type_depths), unfolding(c_grammar::specs::Reading::single_type))]
+    #[tactic(auto, unfolding(c_grammar::specs::Reading::single_type))]
     fn single_type(&self, cursor: &mut Cursor<'_>) -> Result<Deep<TypeSpecifier>, ParseRefusal>
         requires { Nests self.now.room (F.pre self.now.read.now) (F.post self.now.read.now) }
         ensures { ReadsDeep specifier_depth (single_type (reader self.now.room) cursor.old) result cursor.new }
@@ -237,16 +237,28 @@ impl<
     }
 
     /// What a type's name or a declaration begins with.
-    #[tactic(auto, using(crate::proofs::TypeDepths::type_depths), unfolding(c_grammar::specs::Reading::specified))]
+    #[tactic(auto, unfolding(c_grammar::specs::Reading::specified))]
     pub(crate) fn specified(&self, cursor: &mut Cursor<'_>) -> Result<Specified, ParseRefusal>
         requires { Nests self.now.room (F.pre self.now.read.now) (F.post self.now.read.now) }
         ensures { ReadsSpecified (specified (reader self.now.room) cursor.old) result cursor.new }
     {
         let start = cursor.rest();
-        let mut before = words(self.alloc, cursor, WordTest::Specifier)?;
+        let before = words(self.alloc, cursor, WordTest::Specifier)?;
         if has_integer_word(before.as_slice()) {
             return integers(self.alloc, before, start);
         }
+        self.among(cursor, before)
+    }
+
+    /// A type that is no integer type, behind these words, with the modifiers behind it.
+    fn among(
+        &self,
+        cursor: &mut Cursor<'_>,
+        mut before: Items<Keyword>,
+    ) -> Result<Specified, ParseRefusal>
+        requires { Nests self.now.room (F.pre self.now.read.now) (F.post self.now.read.now) }
+        ensures { ReadsSpecified (among (reader self.now.room) before cursor.old) result cursor.new }
+    {
         let specifier = self.single_type(cursor)?;
         let after = words(self.alloc, cursor, WordTest::Modifier)?;
         before.append(after)?;
