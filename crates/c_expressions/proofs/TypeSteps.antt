@@ -19,7 +19,7 @@ module _ (expression : ℕ → Reader Expr) (from rest : Input) where
   pub specified-integer : (before : List Keyword) → words is_specifier_word from ≡ Some (before, rest)
       → list_any is_integer_word before ≡ true
       → specified expression from ≡ option_and_then (λ type.
-        Some ((filter is_modifier before, specifiers.Integer type), rest)) (integer_type before)
+      Some ((filter is_modifier before, specifiers.Integer type), rest)) (integer_type before)
   unfolding specified
   specified-integer before e some = rw (e, some)
 

@@ -8,7 +8,7 @@ abbrev pub invariant-loop-turn : goal.invariant-loop-turn
 invariant-loop-turn g l = record {
   reads : climb 200 (nested 200 l.self.room) l.wanted (suc (turns l.fn.cursor))
       (record { tree = l.fn.first.deep.tree; level = l.fn.first.level; rest = l.fn.cursor })
-    ≡ climb 200 (nested 200 l.self.room) l.wanted (l._turn-end - l._turn)
+      ≡ climb 200 (nested 200 l.self.room) l.wanted (l._turn-end - l._turn)
       (record { tree = l.deep.tree; level = l.level; rest = l.cursor });
   deep : l.deep.depth ≡ counted (expression_depth l.deep.tree);
 }

@@ -8,6 +8,6 @@ use Rattle.c_expressions.proofs.grammar.Grammar.enumerators.Given as goal
 abbrev pub invariant-loop-turn : goal.invariant-loop-turn
 invariant-loop-turn g l = record {
   reads : enumerators_from (reader l.self.room) (turns l.fn.cursor) l.fn.cursor
-    ≡ behind l.tree (enumerators_from (reader l.self.room) (l._turn-end - l._turn) l.cursor);
+      ≡ behind l.tree (enumerators_from (reader l.self.room) (l._turn-end - l._turn) l.cursor);
   deep : l.depth ≡ counted (enumerators_depth l.tree);
 }

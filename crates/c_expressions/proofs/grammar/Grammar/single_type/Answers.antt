@@ -8,6 +8,6 @@ use Rattle.c_expressions.proofs.grammar.Grammar.single_type.Goals as goal
 pub returns-in-Some : goal.returns-in-Some
 returns-in-Some g c =
     let begins : type_start c.args.cursor.now
-      ≡ Some (record { start = type_seen c.in-Some.start; rest = c.skip.new.self }) = cc c.in-Some.ensures in
+    ≡ Some (record { start = type_seen c.in-Some.start; rest = c.skip.new.self }) = cc c.in-Some.ensures in
     rw (type-by (reader c.args.self.now.room) c.args.cursor.now c.skip.new.self (type_seen c.in-Some.start) begins)
     c.single_by.ensures

@@ -9,12 +9,12 @@ pub returns-then-has_integer_word : goal.returns-then-has_integer_word
 returns-then-has_integer_word g c =
     let some : list_any is_integer_word c.in_ok-before.before ≡ true = cc in
     rw (specified-integer (reader c.args.self.now.room) c.args.cursor.now c.words.new.cursor c.in_ok-before.before
-        c.in_ok-before.ensures some)
+    c.in_ok-before.ensures some)
     (c.integers.ensures c.words.new.cursor)
 
 pub returns : goal.returns
 returns g c =
     let none : list_any is_integer_word c.in_ok-before.before ≡ false = cc in
     rw (specified-single (reader c.args.self.now.room) c.args.cursor.now c.words.new.cursor c.in_ok-before.before
-        c.in_ok-before.ensures none)
+    c.in_ok-before.ensures none)
     c.among.ensures
