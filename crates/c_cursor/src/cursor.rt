@@ -97,7 +97,9 @@ impl<'a> Cursor<'a> {
     }
 
     /// The tokens that are left.
-    pub fn rest(&self) -> &'a [Token] {
+    pub fn rest(&self) -> &'a [Token]
+        ensures { result.now ≡ self.now.tokens }
+    {
         self.tokens
     }
 

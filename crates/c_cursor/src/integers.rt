@@ -21,7 +21,7 @@ struct Spelling {
 }
 
 /// How often a word stands in the list.
-fn times(word: Keyword, list: &[Keyword]) -> usize
+pub fn times(word: Keyword, list: &[Keyword]) -> usize
     ensures { result ≡ times word list.now }
 {
     let mut count = 0;

@@ -22,7 +22,7 @@ pub use infix::{
     ASSIGNMENT_LEVEL, CAST_LEVEL, COMMA_LEVEL, CONDITIONAL_LEVEL, Infix, POSTFIX_LEVEL,
     UNARY_LEVEL, binary_level, logical_level,
 };
-pub use integers::{has_integer_word, integer_type, modifiers};
+pub use integers::{has_integer_word, integer_type, modifiers, times};
 pub use left_out::LeftOut;
 pub use names::Names;
 pub use refusal::ParseRefusal;

@@ -14,7 +14,7 @@ use Rattle.c_grammar.specs.Reading.{nested}
 use Rattle.c_grammar.specs.DeclarationReading as declarations
 use Rattle.c_grammar.proofs.Kept.{Extends, through, declares-kept, under-kept, mark-kept, identifier-kept, type_start-kept, pointers-kept, lengths-kept, specified-kept, expression-kept}
 use Rattle.c_grammar.proofs.Sound.{SoundExpressions, nested-sound}
-use Rattle.c_grammar.proofs.DeclarationsSound.{parameters-sound, local-sound}
+use Rattle.c_grammar.proofs.DeclarationsSound.{parameters-sound, function-sound, local-sound}
 
 pub declared-kept : {from : Input} {tree : Declarator} {name : Name} {to : Input} → Declared from tree name to → Extends from to
 declared-kept (grammar.Declared.declared {behind = behind} {named = named} p i l) =
@@ -74,6 +74,12 @@ pub read_parameters-kept : (limit room : ℕ) (from : Input) (list : List Parame
     → declarations.parameter_list (nested limit room).expression from ≡ Some (list, to) → Extends from to
 read_parameters-kept limit room from list to e =
     parameters-kept (parameters-sound limit (nested limit room).expression (nested-sound limit room).expressions from list to e)
+
+-- a function's declarator
+pub read_function-kept : (limit room : ℕ) (from : Input) (tree : FunctionDeclarator) (to : Input)
+    → declarations.function_declared (nested limit room).expression from ≡ Some (tree, to) → Extends from to
+read_function-kept limit room from tree to e =
+    function-kept (function-sound limit (nested limit room).expression (nested-sound limit room).expressions from tree to e)
 
 -- a declaration inside a function
 pub read_local-kept : (limit room : ℕ) (from : Input) (tree : Declaration) (to : Input)

@@ -7,7 +7,7 @@ mod Sizes
 mod ExpressionsRead
 mod Complete
 mod Sound
-mod DeclarationsRead
+pub mod DeclarationsRead
 mod NamesRead
 mod RecordsRead
 mod StatementDepths

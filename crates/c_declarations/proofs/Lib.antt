@@ -1,0 +1,5 @@
+pub mod DeclaredDepths
+pub mod Kept
+pub mod VoidAlone
+pub mod RecordSteps
+pub mod FunctionSteps

@@ -1,0 +1,119 @@
+//! Where forms that the profile leaves out begin in declarations, and the refusals that name them.
+ghost use Rattle.c_lexer.specs.declared.punctuator.Punctuator.TheVariants as marks;
+ghost use Rattle.c_grammar.specs.Input.{mark};
+ghost use Rattle.c_cursor.specs.Reads.{IsRefusal, Expects};
+
+use c_cursor::{Cursor, LeftOut, ParseRefusal};
+use c_lexer::{Keyword, Punctuator, Token, TokenKind};
+use rc_text::Place;
+
+/// Whether this punctuator stands next.
+pub(crate) fn is_next(cursor: &Cursor<'_>, punctuator: Punctuator) -> bool {
+    match cursor.peek() {
+        Some(token) => token.kind == TokenKind::Punctuator(punctuator),
+        None => false,
+    }
+}
+
+/// Why nothing goes on at the next token, behind the declarator of members.
+fn behind_member(cursor: &Cursor<'_>) -> ParseRefusal
+    ensures { IsRefusal result }
+{
+    match cursor.peek() {
+        Some(token) if token.kind == TokenKind::Punctuator(Punctuator::Colon) => ParseRefusal::Refused {
+            place: token.place,
+            name: LeftOut::BitField,
+        },
+        _ => cursor.unexpected(),
+    }
+}
+
+/// Goes past the semicolon behind members of one type.
+pub(crate) fn close_members(cursor: &mut Cursor<'_>) -> Result<(), ParseRefusal>
+    ensures { Expects (mark marks.Semicolon cursor.old) result cursor.new }
+{
+    if cursor.mark(Punctuator::Semicolon) {
+        Ok(())
+    } else {
+        Err(behind_member(cursor))
+    }
+}
+
+/// Why nothing goes on at the next token, behind a name at file scope that is no function's.
+fn behind_file_object(cursor: &Cursor<'_>) -> ParseRefusal
+    ensures { IsRefusal result }
+{
+    match cursor.peek() {
+        Some(token) if ends_object(token.kind) => ParseRefusal::Refused {
+            place: token.place,
+            name: LeftOut::FileObject,
+        },
+        _ => cursor.unexpected(),
+    }
+}
+
+/// Whether what stands before it is an object's declarator.
+fn ends_object(kind: TokenKind) -> bool {
+    matches!(
+        kind,
+        TokenKind::Punctuator(
+            Punctuator::Semicolon | Punctuator::Assign | Punctuator::Comma | Punctuator::OpenBracket
+        )
+    )
+}
+
+/// Goes past the parenthesis behind a function's name at file scope.
+pub(crate) fn open_parameters(cursor: &mut Cursor<'_>) -> Result<(), ParseRefusal>
+    ensures { Expects (mark marks.OpenParenthesis cursor.old) result cursor.new }
+{
+    if cursor.mark(Punctuator::OpenParenthesis) {
+        Ok(())
+    } else {
+        Err(behind_file_object(cursor))
+    }
+}
+
+pub(crate) fn syntax(place: Place) -> ParseRefusal
+    ensures { IsRefusal result }
+{
+    ParseRefusal::Syntax { place }
+}
+
+/// The refusal at the first `static` or `extern`, which make objects of the whole file.
+pub(crate) fn at_file_word(start: &[Token]) -> ParseRefusal
+    ensures { IsRefusal result }
+{
+    for token in start {
+        if is_file_word(token.kind) {
+            return ParseRefusal::Refused {
+                place: token.place,
+                name: LeftOut::FileObject,
+            };
+        }
+    }
+    syntax(Place::START)
+}
+
+/// The refusal at the second word of storage.
+pub(crate) fn at_second_storage(start: &[Token]) -> ParseRefusal
+    ensures { IsRefusal result }
+{
+    let mut before = false;
+    for token in start {
+        if is_storage(token.kind) {
+            if before {
+                return syntax(token.place);
+            }
+            before = true;
+        }
+    }
+    syntax(Place::START)
+}
+
+fn is_file_word(kind: TokenKind) -> bool {
+    matches!(kind, TokenKind::Keyword(Keyword::Static | Keyword::Extern))
+}
+
+fn is_storage(kind: TokenKind) -> bool {
+    matches!(kind, TokenKind::Keyword(Keyword::Typedef)) || is_file_word(kind)
+}
