@@ -8,9 +8,11 @@ mod grammar;
 mod nodes;
 mod parts;
 mod types;
+mod words;
 
 pub use expressions::{expression, lengths, single_by, specified};
 pub use parts::{Begun, Specified};
+pub use words::{all_qualifiers, at_storage_word, further, integers, single_node};
 
 #[cfg(test)]
 mod tests;

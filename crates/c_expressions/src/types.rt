@@ -18,29 +18,20 @@ ghost use Rattle.c_cursor.specs.Starts.{type_seen};
 
 use crate::grammar::Grammar;
 use crate::parts::Specified;
+use crate::words::{all_qualifiers, at_storage_word, further, integers, single_node};
 use c_cursor::{
-    CONDITIONAL_LEVEL, Cursor, DEPTH_LIMIT, Deep, ParseRefusal, TypeStart, WordTest, attributes,
-    has_integer_word, integer_type, is_integer_word, is_modifier, is_qualifier, modifiers, name,
-    pointers, words,
+    CONDITIONAL_LEVEL, Cursor, Deep, ParseRefusal, TypeStart, WordTest, attributes,
+    has_integer_word, name, pointers, words,
 };
 use c_grammar::NameKind;
-use c_lexer::{Keyword, Punctuator, Token, TokenKind};
+use c_lexer::{Keyword, Punctuator};
 use c_syntax::{
     AbstractDeclarator, Attribute, EnumDefinition, Enumerator, Expr, Name, RecordKind, TypeName,
     TypeSpecifier,
 };
-use rc_text::{Bytes, Place};
+use rc_text::Bytes;
 use sqlite_items::{Boxed, Items};
 use std::alloc::Global;
-
-/// One past the limit, further than which no depth is counted.
-const TOO_DEEP: usize = DEPTH_LIMIT + 1;
-
-fn all_qualifiers(words: &[Keyword]) -> bool
-    ensures { result ≡ list_all is_qualifier words.now }
-{
-    words.iter().all(|word| is_qualifier(*word))
-}
 
 impl<
     'g,
@@ -308,24 +299,7 @@ impl<
 fn one_more(depth: usize) -> usize
     ensures { result ≡ min (depth + 1) 201 }
 {
-    depth.saturating_add(1).min(TOO_DEEP)
-}
-
-/// A depth this far in.
-fn further(depth: usize, steps: usize) -> usize
-    ensures { result ≡ min (depth + steps) 201 }
-{
-    depth.saturating_add(steps).min(TOO_DEEP)
-}
-
-/// A specified type that is one node.
-#[tactic(auto, using(crate::proofs::TypeDepths::type_depths))]
-fn single_node(tree: TypeSpecifier) -> Deep<TypeSpecifier>
-    requires { specifier_depth tree ≡ 1 }
-    ensures tree { result.tree ≡ tree }
-    ensures depth { result.depth ≡ 1 }
-{
-    Deep { tree, depth: 1 }
+    further(depth, 1)
 }
 
 #[tactic(auto, using(crate::proofs::TypeDepths::type_depths))]
@@ -361,62 +335,4 @@ fn type_name(
         tree: Boxed::new(alloc, name)?,
         depth,
     })
-}
-
-/// The integer type that the words name, which stand at these tokens.
-#[tactic(auto, using(crate::proofs::TypeDepths::type_depths))]
-fn integers(
-    alloc: Global,
-    before: Items<Keyword>,
-    start: &[Token],
-) -> Result<Specified, ParseRefusal>
-    ensures { (rest : Input) → ReadsSpecified (option_and_then (λ type.
-        Some ((filter is_modifier before, specifiers.Integer type), rest)) (integer_type before)) result rest }
-{
-    match integer_type(before.as_slice()) {
-        Some(named) => Ok(Specified {
-            words: modifiers(alloc, before.as_slice())?,
-            specifier: single_node(TypeSpecifier::Integer(named)),
-        }),
-        None => Err(at_wrong_word(before.as_slice(), start)),
-    }
-}
-
-fn syntax(place: Place) -> ParseRefusal
-    ensures { IsRefusal result }
-{
-    ParseRefusal::Syntax { place }
-}
-
-/// The refusal at the first word with which those before it name no type.
-fn at_wrong_word(words: &[Keyword], start: &[Token]) -> ParseRefusal
-    ensures { IsRefusal result }
-{
-    for (at, token) in start.iter().enumerate() {
-        if at < words.len() && is_integer_word(words[at]) {
-            if integer_type(&words[..at + 1]).is_none() {
-                return syntax(token.place);
-            }
-        }
-    }
-    syntax(Place::START)
-}
-
-/// The refusal at the first word that stands only in declarations.
-fn at_storage_word(start: &[Token]) -> ParseRefusal
-    ensures { IsRefusal result }
-{
-    for token in start {
-        if is_storage_word(token.kind) {
-            return syntax(token.place);
-        }
-    }
-    syntax(Place::START)
-}
-
-fn is_storage_word(kind: TokenKind) -> bool {
-    match kind {
-        TokenKind::Keyword(word) => is_modifier(word) && !is_qualifier(word),
-        _ => false,
-    }
 }
