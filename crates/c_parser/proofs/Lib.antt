@@ -1,0 +1,3 @@
+pub mod ItemDepths
+pub mod Functions
+pub mod ItemLists
