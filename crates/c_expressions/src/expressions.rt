@@ -69,7 +69,8 @@ impl<
     /// Arguments with commas between them, and the closing parenthesis.
     fn arguments_inside(&self, cursor: &mut Cursor<'_>) -> Result<Deep<Items<Expr>>, ParseRefusal>
         requires { Nests self.now.room (F.pre self.now.read.now) (F.post self.now.read.now) }
-        ensures { ReadsDeep expressions_depth (arguments_from 200 (nested 200 self.now.room) (turns cursor.old) cursor.old) result cursor.new }
+        ensures { ReadsDeep expressions_depth (arguments_from 200 (nested 200 self.now.room) (turns cursor.old)
+            cursor.old) result cursor.new }
     {
         let mut tree = Items::new(self.alloc);
         let mut depth = 0;
@@ -110,7 +111,8 @@ impl<
         place: Place,
     ) -> Result<Begun, ParseRefusal>
         requires { Nests self.now.room (F.pre self.now.read.now) (F.post self.now.read.now) }
-        ensures { ReadsBegun (call 200 (nested 200 self.now.room) (call_kind callee.entry) place cursor.old) result cursor.new }
+        ensures { ReadsBegun (call 200 (nested 200 self.now.room) (call_kind callee.entry) place cursor.old)
+            result cursor.new }
     {
         let arguments = self.arguments(cursor)?;
         Ok(Begun {
@@ -156,7 +158,8 @@ impl<
         place: Place,
     ) -> Result<Begun, ParseRefusal>
         requires { Nests self.now.room (F.pre self.now.read.now) (F.post self.now.read.now) }
-        ensures { ReadsBegun (of_type 200 (nested 200 self.now.room) (of_type_kind operator) place cursor.old) result cursor.new }
+        ensures { ReadsBegun (of_type 200 (nested 200 self.now.room) (of_type_kind operator) place cursor.old)
+            result cursor.new }
     {
         let name = self.type_name(cursor)?;
         cursor.close_type()?;
@@ -175,8 +178,8 @@ impl<
         place: Place,
     ) -> Result<Begun, ParseRefusal>
         requires { Nests self.now.room (F.pre self.now.read.now) (F.post self.now.read.now) }
-        ensures { ReadsBegun (operand 200 (nested 200 self.now.room) (before_level operator) (before_kind operator) place cursor.old)
-            result cursor.new }
+        ensures { ReadsBegun (operand 200 (nested 200 self.now.room) (before_level operator) (before_kind operator)
+            place cursor.old) result cursor.new }
     {
         let operand = self.expression(cursor, operator.level())?;
         Ok(Begun {
@@ -205,7 +208,8 @@ impl<
         place: Place,
     ) -> Result<Begun, ParseRefusal>
         requires { Nests self.now.room (F.pre self.now.read.now) (F.post self.now.read.now) }
-        ensures { ReadsBegun (begun_by 200 (nested 200 self.now.room) (operators.Ordinary text.now) place cursor.old) result cursor.new }
+        ensures { ReadsBegun (begun_by 200 (nested 200 self.now.room) (operators.Ordinary text.now) place cursor.old)
+            result cursor.new }
     {
         if cursor.mark(Punctuator::OpenParenthesis) {
             self.call(cursor, Callee::Function(text), place)
@@ -225,7 +229,8 @@ impl<
     ) -> Result<Begun, ParseRefusal>
         requires nests { Nests self.now.room (F.pre self.now.read.now) (F.post self.now.read.now) }
         requires otherwise { IsRefusal otherwise }
-        ensures { ReadsBegun (begun_by 200 (nested 200 self.now.room) (start_seen start.entry) place cursor.old) result cursor.new }
+        ensures { ReadsBegun (begun_by 200 (nested 200 self.now.room) (start_seen start.entry) place cursor.old)
+            result cursor.new }
     {
         match start {
             Start::Integer(constant) => {
@@ -284,8 +289,8 @@ impl<
     ) -> Result<Begun, ParseRefusal>
         requires nests { Nests self.now.room (F.pre self.now.read.now) (F.post self.now.read.now) }
         requires left { IsDeep expression_depth left }
-        ensures { ReadsBegun (joined 200 (nested 200 self.now.room) (joint_level joint) (right_level joint) (joint_kind joint left.tree)
-            left.tree.place cursor.old) result cursor.new }
+        ensures { ReadsBegun (joined 200 (nested 200 self.now.room) (joint_level joint) (right_level joint)
+            (joint_kind joint left.tree) left.tree.place cursor.old) result cursor.new }
     {
         let right = self.expression(cursor, joint.right_level())?;
         Ok(Begun {
@@ -339,8 +344,8 @@ impl<
         operand: Deep<Boxed<Expr>>,
     ) -> Result<Begun, ParseRefusal>
         requires { IsDeep expression_depth operand }
-        ensures { ReadsBegun (member 200 (nested 200 self.now.room) (member_kind form operand.tree) operand.tree.place cursor.old)
-            result cursor.new }
+        ensures { ReadsBegun (member 200 (nested 200 self.now.room) (member_kind form operand.tree)
+            operand.tree.place cursor.old) result cursor.new }
     {
         match cursor.identifier() {
             Some(name) => Ok(Begun {
@@ -359,7 +364,8 @@ impl<
         operand: Deep<Boxed<Expr>>,
     ) -> Result<Begun, ParseRefusal>
         requires { IsDeep expression_depth operand }
-        ensures { ReadsBegun (grown 200 (nested 200 self.now.room) (operators.Step operator) operand.tree cursor.now) result cursor.now }
+        ensures { ReadsBegun (grown 200 (nested 200 self.now.room) (operators.Step operator) operand.tree cursor.now)
+            result cursor.now }
     {
         let _ = cursor;
         Ok(Begun {
@@ -377,7 +383,8 @@ impl<
     ) -> Result<Begun, ParseRefusal>
         requires nests { Nests self.now.room (F.pre self.now.read.now) (F.post self.now.read.now) }
         requires left { IsDeep expression_depth left }
-        ensures { ReadsBegun (grown 200 (nested 200 self.now.room) (infix_seen operator) left.tree cursor.old) result cursor.new }
+        ensures { ReadsBegun (grown 200 (nested 200 self.now.room) (infix_seen operator) left.tree cursor.old)
+            result cursor.new }
     {
         match operator {
             Infix::Subscript => self.subscript(cursor, left),
@@ -430,7 +437,8 @@ impl<
         wanted: u8,
     ) -> Result<Deep<Boxed<Expr>>, ParseRefusal>
         requires { Nests self.now.room (F.pre self.now.read.now) (F.post self.now.read.now) }
-        ensures { ReadsDeep expression_depth (expression_with 200 (nested 200 self.now.room) wanted cursor.old) result cursor.new }
+        ensures { ReadsDeep expression_depth (expression_with 200 (nested 200 self.now.room) wanted cursor.old)
+            result cursor.new }
     {
         // A cast can't be an operand of `++` or `--`, whose parenthesis an expression would stand in.
         let no_cast = cursor.unexpected_behind();
