@@ -6,6 +6,7 @@ ghost use Rattle.c_grammar.specs.Operators.{comma_level, postfix_level};
 ghost use Rattle.c_grammar.specs.Reading.{nested, turns, made, arguments_from, arguments, call, parenthesized, cast};
 ghost use Rattle.c_grammar.specs.Reading.{of_type, operand, size_of, begun_by, begun, joined, conditional, subscript};
 ghost use Rattle.c_grammar.specs.Reading.{member, grown, climb, expression_with, specified, single_by, lengths};
+ghost use Rattle.c_grammar.specs.Input.{Input};
 ghost use Rattle.c_grammar.specs.Operators as operators;
 ghost use Rattle.c_syntax.specs.declared.expr.ExprKind.TheVariants as kinds;
 ghost use Rattle.c_cursor.specs.Deep.{IsDeep, ReadsDeep};
@@ -32,16 +33,10 @@ use std::alloc::Global;
 
 /// A primary expression of one token.
 #[tactic(auto, unfolding(c_grammar::specs::Reading::made))]
-fn primary(
-    alloc: Global,
-    cursor: &Cursor<'_>,
-    place: Place,
-    kind: ExprKind,
-) -> Result<Begun, ParseRefusal>
+fn primary(alloc: Global, place: Place, kind: ExprKind) -> Result<Begun, ParseRefusal>
     requires { expression_depth (node place kind) ≡ 1 }
-    ensures { ReadsBegun (made 200 postfix_level place kind cursor.now) result cursor.now }
+    ensures { (rest : Input) → ReadsBegun (made 200 postfix_level place kind rest) result rest }
 {
-    let _ = cursor;
     Ok(Begun {
         deep: nodes::leaf(alloc, place, kind)?,
         level: POSTFIX_LEVEL,
@@ -50,16 +45,28 @@ fn primary(
 
 /// The name of an object, a function or a constant, which is not called.
 #[tactic(auto, using(crate::proofs::Depths::depths))]
-fn named(
-    alloc: Global,
-    cursor: &Cursor<'_>,
-    place: Place,
-    text: &[u8],
-) -> Result<Begun, ParseRefusal>
-    ensures { ReadsBegun (made 200 postfix_level place (kinds.Name text.now) cursor.now) result cursor.now }
+fn named(alloc: Global, place: Place, text: &[u8]) -> Result<Begun, ParseRefusal>
+    ensures { (rest : Input) → ReadsBegun (made 200 postfix_level place (kinds.Name text.now) rest) result rest }
 {
     let text = Bytes::from_slice(alloc, text)?;
-    primary(alloc, cursor, place, ExprKind::Name(text))
+    primary(alloc, place, ExprKind::Name(text))
+}
+
+/// The expression with `++` or `--` behind it.
+#[tactic(auto, unfolding(c_grammar::specs::Reading::made))]
+fn stepped(
+    alloc: Global,
+    operator: IncrementOperator,
+    operand: Deep<Boxed<Expr>>,
+) -> Result<Begun, ParseRefusal>
+    requires { IsDeep expression_depth operand }
+    ensures { (rest : Input) → ReadsBegun (made 200 postfix_level operand.tree.place
+        (kinds.Postfix operand.tree operator) rest) result rest }
+{
+    Ok(Begun {
+        deep: nodes::postfix(alloc, operator, operand)?,
+        level: POSTFIX_LEVEL,
+    })
 }
 
 impl<
@@ -214,7 +221,7 @@ impl<
         if cursor.mark(Punctuator::OpenParenthesis) {
             self.call(cursor, Callee::Function(text), place)
         } else {
-            named(self.alloc, cursor, place, text)
+            named(self.alloc, place, text)
         }
     }
 
@@ -233,13 +240,11 @@ impl<
             result cursor.new }
     {
         match start {
-            Start::Integer(constant) => {
-                primary(self.alloc, cursor, place, ExprKind::Integer(constant))
-            }
+            Start::Integer(constant) => { primary(self.alloc, place, ExprKind::Integer(constant)) }
             Start::Character(constant) => {
-                primary(self.alloc, cursor, place, ExprKind::Character(constant))
+                primary(self.alloc, place, ExprKind::Character(constant))
             }
-            Start::NullPointer => primary(self.alloc, cursor, place, ExprKind::NullPointer),
+            Start::NullPointer => primary(self.alloc, place, ExprKind::NullPointer),
             Start::Ordinary(text) => self.name_or_call(cursor, text, place),
             Start::Operation(operation) => {
                 cursor.expect(Punctuator::OpenParenthesis)?;
@@ -356,24 +361,6 @@ impl<
         }
     }
 
-    #[tactic(auto, unfolding(c_grammar::specs::Reading::made))]
-    fn step(
-        &self,
-        cursor: &Cursor<'_>,
-        operator: IncrementOperator,
-        operand: Deep<Boxed<Expr>>,
-    ) -> Result<Begun, ParseRefusal>
-        requires { IsDeep expression_depth operand }
-        ensures { ReadsBegun (grown 200 (nested 200 self.now.room) (operators.Step operator) operand.tree cursor.now)
-            result cursor.now }
-    {
-        let _ = cursor;
-        Ok(Begun {
-            deep: nodes::postfix(self.alloc, operator, operand)?,
-            level: POSTFIX_LEVEL,
-        })
-    }
-
     /// The expression with one more operator behind it, past which the cursor has gone.
     fn grown(
         &self,
@@ -390,7 +377,7 @@ impl<
             Infix::Subscript => self.subscript(cursor, left),
             Infix::Member => self.member(cursor, MemberOf::Object, left),
             Infix::PointerMember => self.member(cursor, MemberOf::Pointer, left),
-            Infix::Step(step) => self.step(cursor, step, left),
+            Infix::Step(step) => stepped(self.alloc, step, left),
             Infix::Binary(operator) => self.joined(cursor, Joint::Binary(operator), left),
             Infix::Logical(operator) => self.joined(cursor, Joint::Logical(operator), left),
             Infix::Question => self.conditional(cursor, left),
