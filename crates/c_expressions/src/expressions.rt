@@ -6,6 +6,7 @@ ghost use Rattle.c_grammar.specs.Operators.{comma_level, postfix_level};
 ghost use Rattle.c_grammar.specs.Reading.{nested, turns, made, arguments_from, arguments, call, parenthesized, cast};
 ghost use Rattle.c_grammar.specs.Reading.{of_type, operand, size_of, begun_by, begun, joined, conditional, subscript};
 ghost use Rattle.c_grammar.specs.Reading.{member, grown, climb, expression_with, specified, single_by, lengths};
+ghost use Rattle.c_grammar.specs.Input.{Input};
 ghost use Rattle.c_grammar.specs.Operators as operators;
 ghost use Rattle.c_syntax.specs.declared.expr.ExprKind.TheVariants as kinds;
 ghost use Rattle.c_cursor.specs.Deep.{IsDeep, ReadsDeep};
@@ -32,16 +33,10 @@ use std::alloc::Global;
 
 /// A primary expression of one token.
 #[tactic(auto, unfolding(c_grammar::specs::Reading::made))]
-fn primary(
-    alloc: Global,
-    cursor: &Cursor<'_>,
-    place: Place,
-    kind: ExprKind,
-) -> Result<Begun, ParseRefusal>
+fn primary(alloc: Global, place: Place, kind: ExprKind) -> Result<Begun, ParseRefusal>
     requires { expression_depth (node place kind) ≡ 1 }
-    ensures { ReadsBegun (made 200 postfix_level place kind cursor.now) result cursor.now }
+    ensures { (rest : Input) → ReadsBegun (made 200 postfix_level place kind rest) result rest }
 {
-    let _ = cursor;
     Ok(Begun {
         deep: nodes::leaf(alloc, place, kind)?,
         level: POSTFIX_LEVEL,
@@ -50,16 +45,28 @@ fn primary(
 
 /// The name of an object, a function or a constant, which is not called.
 #[tactic(auto, using(crate::proofs::Depths::depths))]
-fn named(
-    alloc: Global,
-    cursor: &Cursor<'_>,
-    place: Place,
-    text: &[u8],
-) -> Result<Begun, ParseRefusal>
-    ensures { ReadsBegun (made 200 postfix_level place (kinds.Name text.now) cursor.now) result cursor.now }
+fn named(alloc: Global, place: Place, text: &[u8]) -> Result<Begun, ParseRefusal>
+    ensures { (rest : Input) → ReadsBegun (made 200 postfix_level place (kinds.Name text.now) rest) result rest }
 {
     let text = Bytes::from_slice(alloc, text)?;
-    primary(alloc, cursor, place, ExprKind::Name(text))
+    primary(alloc, place, ExprKind::Name(text))
+}
+
+/// The expression with `++` or `--` behind it.
+#[tactic(auto, unfolding(c_grammar::specs::Reading::made))]
+fn stepped(
+    alloc: Global,
+    operator: IncrementOperator,
+    operand: Deep<Boxed<Expr>>,
+) -> Result<Begun, ParseRefusal>
+    requires { IsDeep expression_depth operand }
+    ensures { (rest : Input) → ReadsBegun (made 200 postfix_level operand.tree.place
+        (kinds.Postfix operand.tree operator) rest) result rest }
+{
+    Ok(Begun {
+        deep: nodes::postfix(alloc, operator, operand)?,
+        level: POSTFIX_LEVEL,
+    })
 }
 
 impl<
@@ -69,7 +76,8 @@ impl<
     /// Arguments with commas between them, and the closing parenthesis.
     fn arguments_inside(&self, cursor: &mut Cursor<'_>) -> Result<Deep<Items<Expr>>, ParseRefusal>
         requires { Nests self.now.room (F.pre self.now.read.now) (F.post self.now.read.now) }
-        ensures { ReadsDeep expressions_depth (arguments_from 200 (nested 200 self.now.room) (turns cursor.old) cursor.old) result cursor.new }
+        ensures { ReadsDeep expressions_depth (arguments_from 200 (nested 200 self.now.room) (turns cursor.old)
+            cursor.old) result cursor.new }
     {
         let mut tree = Items::new(self.alloc);
         let mut depth = 0;
@@ -110,7 +118,8 @@ impl<
         place: Place,
     ) -> Result<Begun, ParseRefusal>
         requires { Nests self.now.room (F.pre self.now.read.now) (F.post self.now.read.now) }
-        ensures { ReadsBegun (call 200 (nested 200 self.now.room) (call_kind callee.entry) place cursor.old) result cursor.new }
+        ensures { ReadsBegun (call 200 (nested 200 self.now.room) (call_kind callee.entry) place cursor.old)
+            result cursor.new }
     {
         let arguments = self.arguments(cursor)?;
         Ok(Begun {
@@ -156,7 +165,8 @@ impl<
         place: Place,
     ) -> Result<Begun, ParseRefusal>
         requires { Nests self.now.room (F.pre self.now.read.now) (F.post self.now.read.now) }
-        ensures { ReadsBegun (of_type 200 (nested 200 self.now.room) (of_type_kind operator) place cursor.old) result cursor.new }
+        ensures { ReadsBegun (of_type 200 (nested 200 self.now.room) (of_type_kind operator) place cursor.old)
+            result cursor.new }
     {
         let name = self.type_name(cursor)?;
         cursor.close_type()?;
@@ -175,8 +185,8 @@ impl<
         place: Place,
     ) -> Result<Begun, ParseRefusal>
         requires { Nests self.now.room (F.pre self.now.read.now) (F.post self.now.read.now) }
-        ensures { ReadsBegun (operand 200 (nested 200 self.now.room) (before_level operator) (before_kind operator) place cursor.old)
-            result cursor.new }
+        ensures { ReadsBegun (operand 200 (nested 200 self.now.room) (before_level operator) (before_kind operator)
+            place cursor.old) result cursor.new }
     {
         let operand = self.expression(cursor, operator.level())?;
         Ok(Begun {
@@ -205,12 +215,13 @@ impl<
         place: Place,
     ) -> Result<Begun, ParseRefusal>
         requires { Nests self.now.room (F.pre self.now.read.now) (F.post self.now.read.now) }
-        ensures { ReadsBegun (begun_by 200 (nested 200 self.now.room) (operators.Ordinary text.now) place cursor.old) result cursor.new }
+        ensures { ReadsBegun (begun_by 200 (nested 200 self.now.room) (operators.Ordinary text.now) place cursor.old)
+            result cursor.new }
     {
         if cursor.mark(Punctuator::OpenParenthesis) {
             self.call(cursor, Callee::Function(text), place)
         } else {
-            named(self.alloc, cursor, place, text)
+            named(self.alloc, place, text)
         }
     }
 
@@ -225,16 +236,15 @@ impl<
     ) -> Result<Begun, ParseRefusal>
         requires nests { Nests self.now.room (F.pre self.now.read.now) (F.post self.now.read.now) }
         requires otherwise { IsRefusal otherwise }
-        ensures { ReadsBegun (begun_by 200 (nested 200 self.now.room) (start_seen start.entry) place cursor.old) result cursor.new }
+        ensures { ReadsBegun (begun_by 200 (nested 200 self.now.room) (start_seen start.entry) place cursor.old)
+            result cursor.new }
     {
         match start {
-            Start::Integer(constant) => {
-                primary(self.alloc, cursor, place, ExprKind::Integer(constant))
-            }
+            Start::Integer(constant) => { primary(self.alloc, place, ExprKind::Integer(constant)) }
             Start::Character(constant) => {
-                primary(self.alloc, cursor, place, ExprKind::Character(constant))
+                primary(self.alloc, place, ExprKind::Character(constant))
             }
-            Start::NullPointer => primary(self.alloc, cursor, place, ExprKind::NullPointer),
+            Start::NullPointer => primary(self.alloc, place, ExprKind::NullPointer),
             Start::Ordinary(text) => self.name_or_call(cursor, text, place),
             Start::Operation(operation) => {
                 cursor.expect(Punctuator::OpenParenthesis)?;
@@ -284,8 +294,8 @@ impl<
     ) -> Result<Begun, ParseRefusal>
         requires nests { Nests self.now.room (F.pre self.now.read.now) (F.post self.now.read.now) }
         requires left { IsDeep expression_depth left }
-        ensures { ReadsBegun (joined 200 (nested 200 self.now.room) (joint_level joint) (right_level joint) (joint_kind joint left.tree)
-            left.tree.place cursor.old) result cursor.new }
+        ensures { ReadsBegun (joined 200 (nested 200 self.now.room) (joint_level joint) (right_level joint)
+            (joint_kind joint left.tree) left.tree.place cursor.old) result cursor.new }
     {
         let right = self.expression(cursor, joint.right_level())?;
         Ok(Begun {
@@ -339,8 +349,8 @@ impl<
         operand: Deep<Boxed<Expr>>,
     ) -> Result<Begun, ParseRefusal>
         requires { IsDeep expression_depth operand }
-        ensures { ReadsBegun (member 200 (nested 200 self.now.room) (member_kind form operand.tree) operand.tree.place cursor.old)
-            result cursor.new }
+        ensures { ReadsBegun (member 200 (nested 200 self.now.room) (member_kind form operand.tree)
+            operand.tree.place cursor.old) result cursor.new }
     {
         match cursor.identifier() {
             Some(name) => Ok(Begun {
@@ -349,23 +359,6 @@ impl<
             }),
             None => Err(cursor.unexpected()),
         }
-    }
-
-    #[tactic(auto, unfolding(c_grammar::specs::Reading::made))]
-    fn step(
-        &self,
-        cursor: &Cursor<'_>,
-        operator: IncrementOperator,
-        operand: Deep<Boxed<Expr>>,
-    ) -> Result<Begun, ParseRefusal>
-        requires { IsDeep expression_depth operand }
-        ensures { ReadsBegun (grown 200 (nested 200 self.now.room) (operators.Step operator) operand.tree cursor.now) result cursor.now }
-    {
-        let _ = cursor;
-        Ok(Begun {
-            deep: nodes::postfix(self.alloc, operator, operand)?,
-            level: POSTFIX_LEVEL,
-        })
     }
 
     /// The expression with one more operator behind it, past which the cursor has gone.
@@ -377,13 +370,14 @@ impl<
     ) -> Result<Begun, ParseRefusal>
         requires nests { Nests self.now.room (F.pre self.now.read.now) (F.post self.now.read.now) }
         requires left { IsDeep expression_depth left }
-        ensures { ReadsBegun (grown 200 (nested 200 self.now.room) (infix_seen operator) left.tree cursor.old) result cursor.new }
+        ensures { ReadsBegun (grown 200 (nested 200 self.now.room) (infix_seen operator) left.tree cursor.old)
+            result cursor.new }
     {
         match operator {
             Infix::Subscript => self.subscript(cursor, left),
             Infix::Member => self.member(cursor, MemberOf::Object, left),
             Infix::PointerMember => self.member(cursor, MemberOf::Pointer, left),
-            Infix::Step(step) => self.step(cursor, step, left),
+            Infix::Step(step) => stepped(self.alloc, step, left),
             Infix::Binary(operator) => self.joined(cursor, Joint::Binary(operator), left),
             Infix::Logical(operator) => self.joined(cursor, Joint::Logical(operator), left),
             Infix::Question => self.conditional(cursor, left),
@@ -430,7 +424,8 @@ impl<
         wanted: u8,
     ) -> Result<Deep<Boxed<Expr>>, ParseRefusal>
         requires { Nests self.now.room (F.pre self.now.read.now) (F.post self.now.read.now) }
-        ensures { ReadsDeep expression_depth (expression_with 200 (nested 200 self.now.room) wanted cursor.old) result cursor.new }
+        ensures { ReadsDeep expression_depth (expression_with 200 (nested 200 self.now.room) wanted cursor.old)
+            result cursor.new }
     {
         // A cast can't be an operand of `++` or `--`, whose parenthesis an expression would stand in.
         let no_cast = cursor.unexpected_behind();

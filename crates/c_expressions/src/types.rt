@@ -90,7 +90,8 @@ impl<
     /// The constants of an enumeration, behind the opening brace, and the closing one.
     fn enumerators(&self, cursor: &mut Cursor<'_>) -> Result<Deep<Items<Enumerator>>, ParseRefusal>
         requires { Nests self.now.room (F.pre self.now.read.now) (F.post self.now.read.now) }
-        ensures { ReadsDeep enumerators_depth (enumerators_from (reader self.now.room) (turns cursor.old) cursor.old) result cursor.new }
+        ensures { ReadsDeep enumerators_depth (enumerators_from (reader self.now.room) (turns cursor.old) cursor.old)
+            result cursor.new }
     {
         let mut tree = Items::new(self.alloc);
         let mut depth = 0;
@@ -118,7 +119,8 @@ impl<
         tag: Option<Name>,
     ) -> Result<Deep<TypeSpecifier>, ParseRefusal>
         requires { Nests self.now.room (F.pre self.now.read.now) (F.post self.now.read.now) }
-        ensures { ReadsDeep specifier_depth (enumeration (reader self.now.room) attributes tag cursor.old) result cursor.new }
+        ensures { ReadsDeep specifier_depth (enumeration (reader self.now.room) attributes tag cursor.old)
+            result cursor.new }
     {
         let enumerators = self.enumerators(cursor)?;
         let depth = one_more(enumerators.depth);
@@ -141,7 +143,8 @@ impl<
         tag: Name,
     ) -> Result<Deep<TypeSpecifier>, ParseRefusal>
         requires { Nests self.now.room (F.pre self.now.read.now) (F.post self.now.read.now) }
-        ensures { ReadsDeep specifier_depth (tagged (reader self.now.room) attributes tag cursor.old) result cursor.new }
+        ensures { ReadsDeep specifier_depth (tagged (reader self.now.room) attributes tag cursor.old)
+            result cursor.new }
     {
         if cursor.mark(Punctuator::OpenBrace) {
             self.enumeration(cursor, attributes, Some(tag))
@@ -197,7 +200,8 @@ impl<
     ) -> Result<Deep<TypeSpecifier>, ParseRefusal>
         requires nests { Nests self.now.room (F.pre self.now.read.now) (F.post self.now.read.now) }
         requires otherwise { IsRefusal otherwise }
-        ensures { ReadsDeep specifier_depth (single_by (reader self.now.room) (type_seen start.entry) cursor.old) result cursor.new }
+        ensures { ReadsDeep specifier_depth (single_by (reader self.now.room) (type_seen start.entry) cursor.old)
+            result cursor.new }
     {
         match start {
             TypeStart::Void => Ok(single_node(TypeSpecifier::Void)),

@@ -6,6 +6,7 @@ use c_syntax::{
 use rc_text::{Bytes, NoMemory};
 
 /// Prints so many levels of an expression.
+#[cycle(printing)]
 pub(crate) fn show(text: &mut Bytes, expression: &Expr, levels: u8) -> Result<(), NoMemory> {
     if levels == 0 {
         return text.append(b"..");
@@ -78,6 +79,7 @@ pub(crate) fn show(text: &mut Bytes, expression: &Expr, levels: u8) -> Result<()
     }
 }
 
+#[cycle(printing)]
 fn node(text: &mut Bytes, name: &[u8], operands: &[&Expr], levels: u8) -> Result<(), NoMemory> {
     text.append(b"(")?;
     text.append(name)?;
@@ -88,6 +90,7 @@ fn node(text: &mut Bytes, name: &[u8], operands: &[&Expr], levels: u8) -> Result
     text.append(b")")
 }
 
+#[cycle(printing)]
 fn list(text: &mut Bytes, name: &[u8], arguments: &[Expr], levels: u8) -> Result<(), NoMemory> {
     text.append(b"(")?;
     text.append(name)?;

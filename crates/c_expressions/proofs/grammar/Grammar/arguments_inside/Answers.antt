@@ -9,25 +9,35 @@ use Rattle.c_expressions.proofs.grammar.Grammar.arguments_inside.Goals as goal
 pub returns-in_err-argument : goal.returns-in_err-argument
 unfolding arguments_from
 returns-in_err-argument g c =
-    let e = one_more (λ n. behind c.loop-turn.tree (arguments_from 200 (nested 200 c.args.self.now.room) n c.loop-turn.cursor)) _ c.loop-turn._turn c.loop-turn-test.true c.loop-turn.invariant.reads in
+    let e = one_more
+    (λ n. behind c.loop-turn.tree (arguments_from 200 (nested 200 c.args.self.now.room) n c.loop-turn.cursor))
+    _ c.loop-turn._turn c.loop-turn-test.true c.loop-turn.invariant.reads in
     first_of (search rules, grind (arith, common_steps, behind-behind, behind-nothing))
 
 pub returns-in_err-expect : goal.returns-in_err-expect
 unfolding arguments_from
 returns-in_err-expect g c =
-    let e = one_more (λ n. behind c.loop-turn.tree (arguments_from 200 (nested 200 c.args.self.now.room) n c.loop-turn.cursor)) _ c.loop-turn._turn c.loop-turn-test.true c.loop-turn.invariant.reads in
+    let e = one_more
+    (λ n. behind c.loop-turn.tree (arguments_from 200 (nested 200 c.args.self.now.room) n c.loop-turn.cursor))
+    _ c.loop-turn._turn c.loop-turn-test.true c.loop-turn.invariant.reads in
     first_of (search rules, grind (arith, common_steps, behind-behind, behind-nothing))
 
 pub returns-then-not-mark : goal.returns-then-not-mark
 unfolding arguments_from
 returns-then-not-mark g c =
-    let e = one_more (λ n. behind c.loop-turn.tree (arguments_from 200 (nested 200 c.args.self.now.room) n c.loop-turn.cursor)) _ c.loop-turn._turn c.loop-turn-test.true c.loop-turn.invariant.reads in
-    (first_of (search rules, grind (arith, common_steps, behind-behind, behind-nothing)), grind (arith, common_steps, expressions-append))
+    let e = one_more
+    (λ n. behind c.loop-turn.tree (arguments_from 200 (nested 200 c.args.self.now.room) n c.loop-turn.cursor))
+    _ c.loop-turn._turn c.loop-turn-test.true c.loop-turn.invariant.reads in (
+      first_of (search rules, grind (arith, common_steps, behind-behind, behind-nothing)),
+      grind (arith, common_steps, expressions-append),
+    )
 
 pub loop-turn-preserved : goal.loop-turn-preserved
 unfolding arguments_from
 loop-turn-preserved g c =
-    let e = one_more (λ n. behind c.loop-turn.tree (arguments_from 200 (nested 200 c.args.self.now.room) n c.loop-turn.cursor)) _ c.loop-turn._turn c.loop-turn-test.true c.loop-turn.invariant.reads in
+    let e = one_more
+    (λ n. behind c.loop-turn.tree (arguments_from 200 (nested 200 c.args.self.now.room) n c.loop-turn.cursor))
+    _ c.loop-turn._turn c.loop-turn-test.true c.loop-turn.invariant.reads in
     record {
       reads = first_of (search rules, grind (arith, common_steps, behind-behind, behind-nothing));
       deep = grind (arith, common_steps, expressions-append);
@@ -36,5 +46,7 @@ loop-turn-preserved g c =
 pub returns : goal.returns
 unfolding arguments_from
 returns g c =
-    let e = no_more (λ n. behind c.loop-turn.tree (arguments_from 200 (nested 200 c.args.self.now.room) n c.loop-turn.cursor)) _ c.loop-turn._turn c.loop-turn-test.false c.loop-turn.invariant.reads in
+    let e = no_more
+    (λ n. behind c.loop-turn.tree (arguments_from 200 (nested 200 c.args.self.now.room) n c.loop-turn.cursor))
+    _ c.loop-turn._turn c.loop-turn-test.false c.loop-turn.invariant.reads in
     first_of (search rules, grind (arith, common_steps, behind-behind, behind-nothing))

@@ -9,31 +9,45 @@ use Rattle.c_expressions.proofs.grammar.Grammar.enumerators.Goals as goal
 pub returns-in_err-one : goal.returns-in_err-one
 unfolding enumerators_from
 returns-in_err-one g c =
-    let e = one_more (λ n. behind c.loop-turn.tree (enumerators_from (reader c.args.self.now.room) n c.loop-turn.cursor)) _ c.loop-turn._turn c.loop-turn-test.true c.loop-turn.invariant.reads in
+    let e = one_more
+    (λ n. behind c.loop-turn.tree (enumerators_from (reader c.args.self.now.room) n c.loop-turn.cursor))
+    _ c.loop-turn._turn c.loop-turn-test.true c.loop-turn.invariant.reads in
     first_of (search rules, grind (arith, common_steps, behind-behind, behind-nothing))
 
 pub returns-in_err-expect : goal.returns-in_err-expect
 unfolding enumerators_from
 returns-in_err-expect g c =
-    let e = one_more (λ n. behind c.loop-turn.tree (enumerators_from (reader c.args.self.now.room) n c.loop-turn.cursor)) _ c.loop-turn._turn c.loop-turn-test.true c.loop-turn.invariant.reads in
+    let e = one_more
+    (λ n. behind c.loop-turn.tree (enumerators_from (reader c.args.self.now.room) n c.loop-turn.cursor))
+    _ c.loop-turn._turn c.loop-turn-test.true c.loop-turn.invariant.reads in
     first_of (search rules, grind (arith, common_steps, behind-behind, behind-nothing))
 
 pub returns-then-not-mark : goal.returns-then-not-mark
 unfolding enumerators_from
 returns-then-not-mark g c =
-    let e = one_more (λ n. behind c.loop-turn.tree (enumerators_from (reader c.args.self.now.room) n c.loop-turn.cursor)) _ c.loop-turn._turn c.loop-turn-test.true c.loop-turn.invariant.reads in
-    (first_of (search rules, grind (arith, common_steps, behind-behind, behind-nothing)), grind (arith, common_steps, enumerators-append))
+    let e = one_more
+    (λ n. behind c.loop-turn.tree (enumerators_from (reader c.args.self.now.room) n c.loop-turn.cursor))
+    _ c.loop-turn._turn c.loop-turn-test.true c.loop-turn.invariant.reads in (
+      first_of (search rules, grind (arith, common_steps, behind-behind, behind-nothing)),
+      grind (arith, common_steps, enumerators-append),
+    )
 
 pub returns-then-mark : goal.returns-then-mark
 unfolding enumerators_from
 returns-then-mark g c =
-    let e = one_more (λ n. behind c.loop-turn.tree (enumerators_from (reader c.args.self.now.room) n c.loop-turn.cursor)) _ c.loop-turn._turn c.loop-turn-test.true c.loop-turn.invariant.reads in
-    (first_of (search rules, grind (arith, common_steps, behind-behind, behind-nothing)), grind (arith, common_steps, enumerators-append))
+    let e = one_more
+    (λ n. behind c.loop-turn.tree (enumerators_from (reader c.args.self.now.room) n c.loop-turn.cursor))
+    _ c.loop-turn._turn c.loop-turn-test.true c.loop-turn.invariant.reads in (
+      first_of (search rules, grind (arith, common_steps, behind-behind, behind-nothing)),
+      grind (arith, common_steps, enumerators-append),
+    )
 
 pub loop-turn-preserved : goal.loop-turn-preserved
 unfolding enumerators_from
 loop-turn-preserved g c =
-    let e = one_more (λ n. behind c.loop-turn.tree (enumerators_from (reader c.args.self.now.room) n c.loop-turn.cursor)) _ c.loop-turn._turn c.loop-turn-test.true c.loop-turn.invariant.reads in
+    let e = one_more
+    (λ n. behind c.loop-turn.tree (enumerators_from (reader c.args.self.now.room) n c.loop-turn.cursor))
+    _ c.loop-turn._turn c.loop-turn-test.true c.loop-turn.invariant.reads in
     record {
       reads = first_of (search rules, grind (arith, common_steps, behind-behind, behind-nothing));
       deep = grind (arith, common_steps, enumerators-append);
@@ -42,5 +56,7 @@ loop-turn-preserved g c =
 pub returns : goal.returns
 unfolding enumerators_from
 returns g c =
-    let e = no_more (λ n. behind c.loop-turn.tree (enumerators_from (reader c.args.self.now.room) n c.loop-turn.cursor)) _ c.loop-turn._turn c.loop-turn-test.false c.loop-turn.invariant.reads in
+    let e = no_more
+    (λ n. behind c.loop-turn.tree (enumerators_from (reader c.args.self.now.room) n c.loop-turn.cursor))
+    _ c.loop-turn._turn c.loop-turn-test.false c.loop-turn.invariant.reads in
     first_of (search rules, grind (arith, common_steps, behind-behind, behind-nothing))

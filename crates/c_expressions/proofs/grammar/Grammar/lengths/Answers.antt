@@ -15,25 +15,33 @@ loop-turn-init g c =
 pub returns-in_err-length : goal.returns-in_err-length
 unfolding lengths_from
 returns-in_err-length g c =
-    let e = one_more (λ n. behind c.loop-turn.tree (lengths_from (reader c.args.self.now.room) n c.loop-turn.cursor)) _ c.loop-turn._turn c.loop-turn-test.true c.loop-turn.invariant.reads in
+    let e = one_more
+    (λ n. behind c.loop-turn.tree (lengths_from (reader c.args.self.now.room) n c.loop-turn.cursor))
+    _ c.loop-turn._turn c.loop-turn-test.true c.loop-turn.invariant.reads in
     first_of (search rules, grind (arith, common_steps, behind-behind, behind-nothing))
 
 pub returns-in_err-expect : goal.returns-in_err-expect
 unfolding lengths_from
 returns-in_err-expect g c =
-    let e = one_more (λ n. behind c.loop-turn.tree (lengths_from (reader c.args.self.now.room) n c.loop-turn.cursor)) _ c.loop-turn._turn c.loop-turn-test.true c.loop-turn.invariant.reads in
+    let e = one_more
+    (λ n. behind c.loop-turn.tree (lengths_from (reader c.args.self.now.room) n c.loop-turn.cursor))
+    _ c.loop-turn._turn c.loop-turn-test.true c.loop-turn.invariant.reads in
     first_of (search rules, grind (arith, common_steps, behind-behind, behind-nothing))
 
 pub returns-then-not-mark : goal.returns-then-not-mark
 unfolding lengths_from
 returns-then-not-mark g c =
-    let e = one_more (λ n. behind c.loop-turn.tree (lengths_from (reader c.args.self.now.room) n c.loop-turn.cursor)) _ c.loop-turn._turn c.loop-turn-test.true c.loop-turn.invariant.reads in
+    let e = one_more
+    (λ n. behind c.loop-turn.tree (lengths_from (reader c.args.self.now.room) n c.loop-turn.cursor))
+    _ c.loop-turn._turn c.loop-turn-test.true c.loop-turn.invariant.reads in
     (first_of (search rules, grind (arith, common_steps, behind-behind, behind-nothing)), c.loop-turn.invariant.deep)
 
 pub loop-turn-preserved : goal.loop-turn-preserved
 unfolding lengths_from
 loop-turn-preserved g c =
-    let e = one_more (λ n. behind c.loop-turn.tree (lengths_from (reader c.args.self.now.room) n c.loop-turn.cursor)) _ c.loop-turn._turn c.loop-turn-test.true c.loop-turn.invariant.reads in
+    let e = one_more
+    (λ n. behind c.loop-turn.tree (lengths_from (reader c.args.self.now.room) n c.loop-turn.cursor))
+    _ c.loop-turn._turn c.loop-turn-test.true c.loop-turn.invariant.reads in
     record {
       reads = first_of (search rules, grind (arith, common_steps, behind-behind, behind-nothing));
       deep = grind (arith, common_steps, lengths-append);
@@ -42,5 +50,7 @@ loop-turn-preserved g c =
 pub returns : goal.returns
 unfolding lengths_from
 returns g c =
-    let e = no_more (λ n. behind c.loop-turn.tree (lengths_from (reader c.args.self.now.room) n c.loop-turn.cursor)) _ c.loop-turn._turn c.loop-turn-test.false c.loop-turn.invariant.reads in
+    let e = no_more
+    (λ n. behind c.loop-turn.tree (lengths_from (reader c.args.self.now.room) n c.loop-turn.cursor))
+    _ c.loop-turn._turn c.loop-turn-test.false c.loop-turn.invariant.reads in
     first_of (search rules, grind (arith, common_steps, behind-behind, behind-nothing))
