@@ -9,7 +9,7 @@ use c_syntax::{Expr, TypeSpecifier};
 use sqlite_items::Items;
 
 /// The depth of a declared type: so many `*`s round the type that the declaration begins with, and arrays of that.
-#[tactic(auto, using(crate::proofs::DeclaredDepths::depths))]
+#[tactic(auto, using(crate::proofs::Depth::depths))]
 pub(crate) fn derived(
     specifier: &Deep<TypeSpecifier>,
     pointers: usize,

@@ -45,7 +45,7 @@ fn parameter_type(alloc: Global, cursor: &mut Cursor<'_>) -> Result<Specified, P
 }
 
 /// A parameter behind its type.
-#[tactic(auto, using(crate::proofs::DeclaredDepths::depths), unfolding(c_grammar::specs::DeclarationReading::parameter_behind))]
+#[tactic(auto, using(crate::proofs::Depth::depths), unfolding(c_grammar::specs::DeclarationReading::parameter_behind))]
 fn parameter_behind(
     alloc: Global,
     cursor: &mut Cursor<'_>,
@@ -146,7 +146,7 @@ fn parameters(
 }
 
 /// Parameters behind the opening parenthesis, none for `void` alone.
-#[tactic(auto, using(crate::proofs::VoidAlone::void_alone), unfolding(c_grammar::specs::DeclarationReading::parameter_list))]
+#[tactic(auto, using(crate::proofs::Void::alone), unfolding(c_grammar::specs::DeclarationReading::parameter_list))]
 pub(crate) fn parameter_list(
     alloc: Global,
     cursor: &mut Cursor<'_>,

@@ -116,7 +116,7 @@ fn record(
 
 /// The same behind the tag.
 #[cycle(records)]
-#[tactic(auto, using(crate::proofs::DeclaredDepths::depths), unfolding(c_grammar::specs::DeclarationReading::record_behind))]
+#[tactic(auto, using(crate::proofs::Depth::depths), unfolding(c_grammar::specs::DeclarationReading::record_behind))]
 fn record_behind(
     alloc: Global,
     cursor: &mut Cursor<'_>,
@@ -264,7 +264,7 @@ fn member_names(
 }
 
 /// Members of one type, which are as deep as the deepest of their types.
-#[tactic(auto, using(crate::proofs::DeclaredDepths::member_depths))]
+#[tactic(auto, using(crate::proofs::Depth::member_depths))]
 fn member_declaration(
     attributes: Items<Attribute>,
     specifier: Deep<TypeSpecifier>,
@@ -286,7 +286,7 @@ fn member_declaration(
 }
 
 /// A struct or union with its members.
-#[tactic(auto, using(crate::proofs::DeclaredDepths::depths))]
+#[tactic(auto, using(crate::proofs::Depth::depths))]
 fn definition(
     kind: RecordKind,
     attributes: Items<Attribute>,

@@ -8,7 +8,7 @@ use Rattle.c_grammar.specs.Declarations.{behind_function}
 use Rattle.c_grammar.specs.DeclarationReading.{function_names_from}
 use Rattle.c_cursor.proofs.Turns.{one_more, no_more, behind, behind-behind, behind-nothing}
 use Rattle.c_expressions.specs.Parts.{reader}
-use Rattle.c_declarations.proofs.DeclaredDepths.{initializers-more}
+use Rattle.c_declarations.proofs.Depth.{initializers-more}
 use Rattle.c_declarations.proofs.FunctionSteps.{function-more}
 use Rattle.c_declarations.proofs.Kept.{leaves}
 use Rattle.c_declarations.proofs.functions.function_names.Goals as goal

@@ -3,7 +3,7 @@ use Rattle.std.proofs.lemmas.Grind.{common_steps}
 use Rattle.c_grammar.specs.DeclarationReading.{typedef_names_from}
 use Rattle.c_cursor.proofs.Turns.{one_more, no_more, behind, behind-behind, behind-nothing}
 use Rattle.c_expressions.specs.Parts.{reader}
-use Rattle.c_declarations.proofs.DeclaredDepths.{declarators-more}
+use Rattle.c_declarations.proofs.Depth.{declarators-more}
 use Rattle.c_declarations.proofs.names.typedef_names.Goals as goal
 
 pub returns-in_err-one : goal.returns-in_err-one

@@ -6,7 +6,7 @@ use Rattle.c_grammar.specs.DeclarationReading.{members_from}
 use Rattle.c_cursor.proofs.Turns.{one_more, no_more, behind, behind-behind, behind-nothing}
 use Rattle.c_expressions.specs.Parts.{reader}
 use Rattle.c_declarations.specs.Parts.{member_types}
-use Rattle.c_declarations.proofs.DeclaredDepths.{members-more}
+use Rattle.c_declarations.proofs.Depth.{members-more}
 use Rattle.c_declarations.proofs.RecordSteps.{one_less, defining-integer}
 use Rattle.c_declarations.proofs.records.+records.Goals as goal
 
