@@ -21,8 +21,8 @@ pub leaves : (from to after : Input) (function : FunctionDeclarator) (scope : �
 leaves from to after function scope s read a = (rw s at a) ∙ kept from to function read
 
 -- the same where the declarator was read in its parts
-pub leaves-behind : (from rest : Input) (count : ℕ) (named : Named) (inner to after : Input) (function : FunctionDeclarator)
-    (scope : ℕ) → pointers from ≡ Some (count, rest) → identifier rest ≡ Some named
+pub leaves-behind : (from rest : Input) (count : ℕ) (named : Named) (inner to after : Input)
+    (function : FunctionDeclarator) (scope : ℕ) → pointers from ≡ Some (count, rest) → identifier rest ≡ Some named
     → mark marks.OpenParenthesis named.rest ≡ Some inner
     → function_behind (reader 200) count named.name inner ≡ Some (function, to) → scope ≡ length from.names
     → after ≡ record { tokens = to.tokens; names = drop (length to.names - scope) to.names } → after ≡ under from to

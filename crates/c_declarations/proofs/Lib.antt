@@ -1,5 +1,5 @@
-pub mod DeclaredDepths
+pub mod Depth
 pub mod Kept
-pub mod VoidAlone
+pub mod Void
 pub mod RecordSteps
 pub mod FunctionSteps

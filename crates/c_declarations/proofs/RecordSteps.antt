@@ -18,9 +18,10 @@ one_less zero from some = absurd (some refl)
 one_less (suc room) from some =
     ap (λ n. defining_with (reader 200) (member_types n) from) (let same : room ≡ suc room - 1 = omega arith in same)
 
-pub defining-integer : (room : ℕ) (from rest : Input) (before : List Keyword) → words is_specifier_word from ≡ Some (before, rest)
+pub defining-integer : (room : ℕ) (from rest : Input) (before : List Keyword)
+    → words is_specifier_word from ≡ Some (before, rest)
     → list_any is_integer_word before ≡ true
     → defining_with (reader 200) (member_types room) from ≡ option_and_then (λ type.
-      Some ((filter is_modifier before, specifiers.Integer type), rest)) (integer_type before)
+    Some ((filter is_modifier before, specifiers.Integer type), rest)) (integer_type before)
 unfolding defining_with specified_with
 defining-integer room from rest before e some = rw (e, some)

@@ -24,7 +24,7 @@ pub(crate) fn declared_name(alloc: Global, cursor: &mut Cursor<'_>) -> Result<Na
 }
 
 /// A declarator, behind its name.
-#[tactic(auto, using(crate::proofs::DeclaredDepths::depths), unfolding(c_grammar::specs::DeclarationReading::declared_behind))]
+#[tactic(auto, using(crate::proofs::Depth::depths), unfolding(c_grammar::specs::DeclarationReading::declared_behind))]
 pub(crate) fn declared_behind(
     alloc: Global,
     cursor: &mut Cursor<'_>,

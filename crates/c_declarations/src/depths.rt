@@ -9,8 +9,12 @@ use c_syntax::{Expr, TypeSpecifier};
 use sqlite_items::Items;
 
 /// The depth of a declared type: so many `*`s round the type that the declaration begins with, and arrays of that.
-#[tactic(auto, using(crate::proofs::DeclaredDepths::depths))]
-pub(crate) fn derived(specifier: &Deep<TypeSpecifier>, pointers: usize, lengths: &Deep<Items<Expr>>) -> usize
+#[tactic(auto, using(crate::proofs::Depth::depths))]
+pub(crate) fn derived(
+    specifier: &Deep<TypeSpecifier>,
+    pointers: usize,
+    lengths: &Deep<Items<Expr>>,
+) -> usize
     requires specifier { IsDeep specifier_depth specifier.now }
     requires lengths { IsDeep lengths_depth lengths.now }
     ensures { result ≡ counted (array_depth (map expression_depth lengths.now.tree)

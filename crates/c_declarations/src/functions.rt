@@ -50,8 +50,8 @@ pub fn function_declared(
     specifier: &Deep<TypeSpecifier>,
 ) -> Result<Deep<FunctionDeclarator>, ParseRefusal>
     requires { IsDeep specifier_depth specifier.now }
-    ensures { ReadsDeep (function_depth (specifier_depth specifier.now.tree)) (function_declared (reader 200) cursor.old)
-        result cursor.new }
+    ensures { ReadsDeep (function_depth (specifier_depth specifier.now.tree))
+        (function_declared (reader 200) cursor.old) result cursor.new }
 {
     let pointers = pointers(alloc, cursor)?;
     let name = declared_name(alloc, cursor)?;
@@ -75,7 +75,11 @@ pub fn function_names(
         let scope = cursor.scope();
         let function = function_declared(alloc, cursor, specifier)?;
         cursor.leave(scope);
-        cursor.declare(alloc, function.tree.name.text.as_slice(), NameKind::Ordinary)?;
+        cursor.declare(
+            alloc,
+            function.tree.name.text.as_slice(),
+            NameKind::Ordinary,
+        )?;
         depth = function.depth.max(depth);
         tree.push(InitDeclarator::Function(function.tree))?;
         if !cursor.mark(Punctuator::Comma) {

@@ -17,3 +17,6 @@ pub use locals::{declaration, local_declaration};
 pub use names::typedef_names;
 pub use records::defining;
 pub use words::{agrees, declares_tag, is_typedef};
+
+#[cfg(test)]
+mod tests;

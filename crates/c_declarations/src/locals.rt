@@ -2,12 +2,13 @@
 ghost use Rattle.std.specs.Prelude.{◌≡◌};
 ghost use Rattle.c_syntax.specs.Depth.{specifier_depth, names_depth, declaration_depth};
 ghost use Rattle.c_grammar.specs.Declarations.{declaration};
+ghost use Rattle.c_grammar.specs.Reading.{specified};
 ghost use Rattle.c_grammar.specs.DeclarationReading.{local_behind, local_declaration};
 ghost use Rattle.c_cursor.specs.Deep.{IsDeep, ReadsDeep};
-ghost use Rattle.c_expressions.specs.Parts.{reader};
+ghost use Rattle.c_expressions.specs.Parts.{reader, ReadsSpecified};
 
 use crate::names::{initialized_names, typedef_names};
-use crate::refusals::{at_file_word, at_second_storage};
+use crate::refusals::{at_file_word, at_second_storage, behind_file_words};
 use crate::words::{agrees, declares_tag, is_local, is_typedef};
 use c_cursor::{Cursor, Deep, ParseRefusal};
 use c_expressions::{Specified, specified};
@@ -75,13 +76,30 @@ fn local_behind(
     }
 }
 
+/// What a declaration inside a function begins with.
+fn local_type(alloc: Global, cursor: &mut Cursor<'_>) -> Result<Specified, ParseRefusal>
+    ensures { ReadsSpecified (specified (reader 200) cursor.old) result cursor.new }
+{
+    let start = cursor.rest();
+    match specified(alloc, cursor) {
+        Err(ParseRefusal::Syntax { place }) => Err(behind_file_words(start, place, None)),
+        Err(ParseRefusal::Refused { place, name }) => {
+            Err(behind_file_words(start, place, Some(name)))
+        }
+        read => read,
+    }
+}
+
 /// A declaration inside a function.
 #[tactic(auto, unfolding(c_grammar::specs::DeclarationReading::local_declaration))]
-pub fn local_declaration(alloc: Global, cursor: &mut Cursor<'_>) -> Result<Deep<Declaration>, ParseRefusal>
+pub fn local_declaration(
+    alloc: Global,
+    cursor: &mut Cursor<'_>,
+) -> Result<Deep<Declaration>, ParseRefusal>
     ensures { ReadsDeep declaration_depth (local_declaration (reader 200) cursor.old) result cursor.new }
 {
     let start = cursor.rest();
-    let Specified { words, specifier } = specified(alloc, cursor)?;
+    let Specified { words, specifier } = local_type(alloc, cursor)?;
     if is_local(words.as_slice()) {
         local_behind(alloc, cursor, words.as_slice(), specifier, start)
     } else {

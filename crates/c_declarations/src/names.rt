@@ -69,7 +69,11 @@ fn object_behind(
     ensures { ReadsDeep (initialized_depth (specifier_depth specifier.now.tree))
         (object_behind (reader 200) declared.tree (declared_name declared.tree) cursor.old) result cursor.new }
 {
-    cursor.declare(alloc, declared.tree.name.text.as_slice(), NameKind::Ordinary)?;
+    cursor.declare(
+        alloc,
+        declared.tree.name.text.as_slice(),
+        NameKind::Ordinary,
+    )?;
     if cursor.mark(Punctuator::Assign) {
         let value = initializer(alloc, cursor)?;
         Ok(Deep {
@@ -107,7 +111,11 @@ fn initialized(
     if cursor.mark(Punctuator::OpenParenthesis) {
         let function = function_behind(alloc, cursor, specifier, pointers, name)?;
         cursor.leave(scope);
-        cursor.declare(alloc, function.tree.name.text.as_slice(), NameKind::Ordinary)?;
+        cursor.declare(
+            alloc,
+            function.tree.name.text.as_slice(),
+            NameKind::Ordinary,
+        )?;
         Ok(Deep {
             tree: InitDeclarator::Function(function.tree),
             depth: function.depth,

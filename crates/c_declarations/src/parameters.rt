@@ -15,7 +15,7 @@ ghost use Rattle.c_declarations.specs.Parts.{parameters_depth, is_found, FindsVo
 
 use crate::declarators::declared_behind;
 use crate::depths::derived;
-use crate::refusals::{is_next, syntax};
+use crate::refusals::{behind_storage_words, is_next, syntax};
 use c_cursor::{Cursor, Deep, LeftOut, ParseRefusal, TypeStart, pointers};
 use c_expressions::{Specified, all_qualifiers, at_storage_word, lengths, specified};
 use c_grammar::NameKind;
@@ -29,18 +29,23 @@ use std::alloc::Global;
 fn parameter_type(alloc: Global, cursor: &mut Cursor<'_>) -> Result<Specified, ParseRefusal>
     ensures { ReadsSpecified (specified (reader 200) cursor.old) result cursor.new }
 {
+    let start = cursor.rest();
     let variadic = is_next(cursor, Punctuator::Ellipsis);
     match specified(alloc, cursor) {
         Err(ParseRefusal::Syntax { place }) if variadic => Err(ParseRefusal::Refused {
             place,
             name: LeftOut::Variadic,
         }),
+        Err(ParseRefusal::Syntax { place }) => Err(behind_storage_words(start, place, None)),
+        Err(ParseRefusal::Refused { place, name }) => {
+            Err(behind_storage_words(start, place, Some(name)))
+        }
         read => read,
     }
 }
 
 /// A parameter behind its type.
-#[tactic(auto, using(crate::proofs::DeclaredDepths::depths), unfolding(c_grammar::specs::DeclarationReading::parameter_behind))]
+#[tactic(auto, using(crate::proofs::Depth::depths), unfolding(c_grammar::specs::DeclarationReading::parameter_behind))]
 fn parameter_behind(
     alloc: Global,
     cursor: &mut Cursor<'_>,
@@ -54,7 +59,11 @@ fn parameter_behind(
         Some(found) => {
             let name = found.to_name(alloc)?;
             let declared = declared_behind(alloc, cursor, &specifier, pointers, name)?;
-            cursor.declare(alloc, declared.tree.name.text.as_slice(), NameKind::Ordinary)?;
+            cursor.declare(
+                alloc,
+                declared.tree.name.text.as_slice(),
+                NameKind::Ordinary,
+            )?;
             Ok(Deep {
                 tree: Parameter {
                     specifier: specifier.tree,
@@ -114,7 +123,10 @@ fn close_parameters(cursor: &mut Cursor<'_>, nameless: bool) -> Result<(), Parse
 }
 
 /// Parameters with commas between them, and the closing parenthesis.
-fn parameters(alloc: Global, cursor: &mut Cursor<'_>) -> Result<Deep<Items<Parameter>>, ParseRefusal>
+fn parameters(
+    alloc: Global,
+    cursor: &mut Cursor<'_>,
+) -> Result<Deep<Items<Parameter>>, ParseRefusal>
     ensures { ReadsDeep parameters_depth (parameters_from (reader 200) (turns cursor.old) cursor.old)
         result cursor.new }
 {
@@ -134,7 +146,7 @@ fn parameters(alloc: Global, cursor: &mut Cursor<'_>) -> Result<Deep<Items<Param
 }
 
 /// Parameters behind the opening parenthesis, none for `void` alone.
-#[tactic(auto, using(crate::proofs::VoidAlone::void_alone), unfolding(c_grammar::specs::DeclarationReading::parameter_list))]
+#[tactic(auto, using(crate::proofs::Void::alone), unfolding(c_grammar::specs::DeclarationReading::parameter_list))]
 pub(crate) fn parameter_list(
     alloc: Global,
     cursor: &mut Cursor<'_>,

@@ -5,20 +5,27 @@ ghost use Rattle.c_syntax.specs.declared.specifier.TypeSpecifier.TheVariants as 
 ghost use Rattle.c_grammar.specs.Declarations.{definition, member_declaration};
 ghost use Rattle.c_grammar.specs.Depths.{member_depth};
 ghost use Rattle.c_grammar.specs.Reading.{turns};
-ghost use Rattle.c_grammar.specs.DeclarationReading.{member_names_from, members_behind, member, members_from};
+ghost use Rattle.c_grammar.specs.DeclarationReading.{declared, member_names_from, members_behind, member, members_from};
 ghost use Rattle.c_grammar.specs.DeclarationReading.{record_behind, record_or_definition, defining_type, defining_with};
 ghost use Rattle.c_grammar.specs.DeclarationReading.{defining};
 ghost use Rattle.c_cursor.specs.Deep.{IsDeep, ReadsDeep};
 ghost use Rattle.c_expressions.specs.Parts.{reader, ReadsSpecified};
-ghost use Rattle.c_declarations.specs.Parts.{declarators_depth, members_depth, member_types};
+ghost use Rattle.c_declarations.specs.Parts.{ReadsDeclared, declarators_depth, members_depth, member_types};
 
 use crate::declarators::declared;
-use crate::refusals::close_members;
+use crate::refusals::{behind_storage_words, close_members, is_next};
 use crate::words::declares_tag;
-use c_cursor::{Cursor, DEPTH_LIMIT, Deep, ParseRefusal, TypeStart, WordTest, attributes, has_integer_word, name, words};
-use c_expressions::{Specified, all_qualifiers, at_storage_word, further, integers, single_by, single_node};
+use c_cursor::{
+    Cursor, DEPTH_LIMIT, Deep, LeftOut, ParseRefusal, TypeStart, WordTest, attributes,
+    has_integer_word, name, words,
+};
+use c_expressions::{
+    Specified, all_qualifiers, at_storage_word, further, integers, single_by, single_node,
+};
 use c_lexer::Punctuator;
-use c_syntax::{Attribute, Declarator, MemberDeclaration, Name, RecordDefinition, RecordKind, TypeSpecifier};
+use c_syntax::{
+    Attribute, Declarator, MemberDeclaration, Name, RecordDefinition, RecordKind, TypeSpecifier,
+};
 use sqlite_items::Items;
 use std::alloc::Global;
 
@@ -45,7 +52,11 @@ fn nested(alloc: Global, cursor: &mut Cursor<'_>, room: usize) -> Result<Specifi
 /// A type with the words that stand round it, where so many definitions may nest in its members.
 #[cycle(records)]
 #[tactic(auto, unfolding(c_grammar::specs::DeclarationReading::defining_with, c_grammar::specs::DeclarationReading::specified_with))]
-fn words_round(alloc: Global, cursor: &mut Cursor<'_>, room: usize) -> Result<Specified, ParseRefusal>
+fn words_round(
+    alloc: Global,
+    cursor: &mut Cursor<'_>,
+    room: usize,
+) -> Result<Specified, ParseRefusal>
     ensures { ReadsSpecified (defining_with (reader 200) (member_types room) cursor.old) result cursor.new }
 {
     let start = cursor.rest();
@@ -65,7 +76,11 @@ fn words_round(alloc: Global, cursor: &mut Cursor<'_>, room: usize) -> Result<Sp
 /// A type of one word, or a struct, union or enumeration.
 #[cycle(records)]
 #[tactic(auto, unfolding(c_grammar::specs::DeclarationReading::defining_type))]
-fn defining_type(alloc: Global, cursor: &mut Cursor<'_>, room: usize) -> Result<Deep<TypeSpecifier>, ParseRefusal>
+fn defining_type(
+    alloc: Global,
+    cursor: &mut Cursor<'_>,
+    room: usize,
+) -> Result<Deep<TypeSpecifier>, ParseRefusal>
     ensures { ReadsDeep specifier_depth (defining_type (reader 200) (member_types room) cursor.old) result cursor.new }
 {
     let otherwise = cursor.unexpected();
@@ -101,7 +116,7 @@ fn record(
 
 /// The same behind the tag.
 #[cycle(records)]
-#[tactic(auto, using(crate::proofs::DeclaredDepths::depths), unfolding(c_grammar::specs::DeclarationReading::record_behind))]
+#[tactic(auto, using(crate::proofs::Depth::depths), unfolding(c_grammar::specs::DeclarationReading::record_behind))]
 fn record_behind(
     alloc: Global,
     cursor: &mut Cursor<'_>,
@@ -151,12 +166,25 @@ fn members(
 /// Members of one type, with their attributes.
 #[cycle(records)]
 #[tactic(auto, unfolding(c_grammar::specs::DeclarationReading::member, c_grammar::specs::DeclarationReading::members_behind))]
-fn member(alloc: Global, cursor: &mut Cursor<'_>, room: usize) -> Result<Deep<MemberDeclaration>, ParseRefusal>
+fn member(
+    alloc: Global,
+    cursor: &mut Cursor<'_>,
+    room: usize,
+) -> Result<Deep<MemberDeclaration>, ParseRefusal>
     ensures { ReadsDeep member_depth (member (reader 200) (member_types room) cursor.old) result cursor.new }
 {
     let attributes = attributes(alloc, cursor)?;
     let start = cursor.rest();
-    let found = nested(alloc, cursor, room)?;
+    let found = match nested(alloc, cursor, room) {
+        Ok(found) => found,
+        Err(ParseRefusal::Syntax { place }) => {
+            return Err(behind_storage_words(start, place, None));
+        }
+        Err(ParseRefusal::Refused { place, name }) => {
+            return Err(behind_storage_words(start, place, Some(name)));
+        }
+        Err(refusal) => return Err(refusal),
+    };
     if all_qualifiers(found.words.as_slice()) {
         members_behind(alloc, cursor, attributes, found.specifier)
     } else {
@@ -192,6 +220,25 @@ fn members_behind(
     }
 }
 
+/// The declarator of a member; a bit field without a name is refused by its name.
+fn member_declared(
+    alloc: Global,
+    cursor: &mut Cursor<'_>,
+    specifier: &Deep<TypeSpecifier>,
+) -> Result<Deep<Declarator>, ParseRefusal>
+    requires { IsDeep specifier_depth specifier.now }
+    ensures { ReadsDeclared (specifier_depth specifier.now.tree) (declared (reader 200) cursor.old) result cursor.new }
+{
+    let bit_field = is_next(cursor, Punctuator::Colon);
+    match declared(alloc, cursor, specifier) {
+        Err(ParseRefusal::Syntax { place }) if bit_field => Err(ParseRefusal::Refused {
+            place,
+            name: LeftOut::BitField,
+        }),
+        read => read,
+    }
+}
+
 /// The declarators of members, with commas between them, and the semicolon.
 fn member_names(
     alloc: Global,
@@ -205,7 +252,7 @@ fn member_names(
     let mut tree = Items::new(alloc);
     let mut depth = 0;
     for _turn in 0..cursor.turns() {
-        let one = declared(alloc, cursor, specifier)?;
+        let one = member_declared(alloc, cursor, specifier)?;
         depth = one.depth.max(depth);
         tree.push(one.tree)?;
         if !cursor.mark(Punctuator::Comma) {
@@ -217,7 +264,7 @@ fn member_names(
 }
 
 /// Members of one type, which are as deep as the deepest of their types.
-#[tactic(auto, using(crate::proofs::DeclaredDepths::member_depths))]
+#[tactic(auto, using(crate::proofs::Depth::member_depths))]
 fn member_declaration(
     attributes: Items<Attribute>,
     specifier: Deep<TypeSpecifier>,
@@ -239,7 +286,7 @@ fn member_declaration(
 }
 
 /// A struct or union with its members.
-#[tactic(auto, using(crate::proofs::DeclaredDepths::depths))]
+#[tactic(auto, using(crate::proofs::Depth::depths))]
 fn definition(
     kind: RecordKind,
     attributes: Items<Attribute>,

@@ -3,7 +3,7 @@ ghost use Rattle.c_lexer.specs.declared.punctuator.Punctuator.TheVariants as mar
 ghost use Rattle.c_grammar.specs.Input.{mark};
 ghost use Rattle.c_cursor.specs.Reads.{IsRefusal, Expects};
 
-use c_cursor::{Cursor, LeftOut, ParseRefusal};
+use c_cursor::{Cursor, LeftOut, ParseRefusal, WordTest};
 use c_lexer::{Keyword, Punctuator, Token, TokenKind};
 use rc_text::Place;
 
@@ -20,10 +20,11 @@ fn behind_member(cursor: &Cursor<'_>) -> ParseRefusal
     ensures { IsRefusal result }
 {
     match cursor.peek() {
-        Some(token) if token.kind == TokenKind::Punctuator(Punctuator::Colon) => ParseRefusal::Refused {
-            place: token.place,
-            name: LeftOut::BitField,
-        },
+        Some(token) if token.kind == TokenKind::Punctuator(Punctuator::Colon) =>
+            ParseRefusal::Refused {
+                place: token.place,
+                name: LeftOut::BitField,
+            },
         _ => cursor.unexpected(),
     }
 }
@@ -44,10 +45,7 @@ fn behind_file_object(cursor: &Cursor<'_>) -> ParseRefusal
     ensures { IsRefusal result }
 {
     match cursor.peek() {
-        Some(token) if ends_object(token.kind) => ParseRefusal::Refused {
-            place: token.place,
-            name: LeftOut::FileObject,
-        },
+        Some(token) if ends_object(token.kind) => file_object(token.place),
         _ => cursor.unexpected(),
     }
 }
@@ -79,19 +77,72 @@ pub(crate) fn syntax(place: Place) -> ParseRefusal
     ParseRefusal::Syntax { place }
 }
 
+fn refusal(place: Place, left_out: Option<LeftOut>) -> ParseRefusal
+    ensures { IsRefusal result }
+{
+    match left_out {
+        Some(name) => ParseRefusal::Refused { place, name },
+        None => syntax(place),
+    }
+}
+
+fn file_object(place: Place) -> ParseRefusal
+    ensures { IsRefusal result }
+{
+    ParseRefusal::Refused {
+        place,
+        name: LeftOut::FileObject,
+    }
+}
+
 /// The refusal at the first `static` or `extern`, which make objects of the whole file.
 pub(crate) fn at_file_word(start: &[Token]) -> ParseRefusal
     ensures { IsRefusal result }
 {
     for token in start {
         if is_file_word(token.kind) {
-            return ParseRefusal::Refused {
-                place: token.place,
-                name: LeftOut::FileObject,
-            };
+            return file_object(token.place);
         }
     }
     syntax(Place::START)
+}
+
+/// The refusal at this place, or at the first `static` or `extern` before the type.
+pub(crate) fn behind_file_words(
+    start: &[Token],
+    place: Place,
+    left_out: Option<LeftOut>,
+) -> ParseRefusal
+    ensures { IsRefusal result }
+{
+    for token in start {
+        if token.place.byte >= place.byte || !is_specifier_word(token.kind) {
+            return refusal(place, left_out);
+        }
+        if is_file_word(token.kind) {
+            return file_object(token.place);
+        }
+    }
+    refusal(place, left_out)
+}
+
+/// The refusal at this place, or at the first word before the type that stands only where names are declared.
+pub(crate) fn behind_storage_words(
+    start: &[Token],
+    place: Place,
+    left_out: Option<LeftOut>,
+) -> ParseRefusal
+    ensures { IsRefusal result }
+{
+    for token in start {
+        if token.place.byte >= place.byte || !is_specifier_word(token.kind) {
+            return refusal(place, left_out);
+        }
+        if is_storage(token.kind) || matches!(token.kind, TokenKind::Keyword(Keyword::Inline)) {
+            return syntax(token.place);
+        }
+    }
+    refusal(place, left_out)
 }
 
 /// The refusal at the second word of storage.
@@ -116,4 +167,11 @@ fn is_file_word(kind: TokenKind) -> bool {
 
 fn is_storage(kind: TokenKind) -> bool {
     matches!(kind, TokenKind::Keyword(Keyword::Typedef)) || is_file_word(kind)
+}
+
+fn is_specifier_word(kind: TokenKind) -> bool {
+    match kind {
+        TokenKind::Keyword(word) => WordTest::Specifier.holds(word),
+        _ => false,
+    }
 }

@@ -3,35 +3,40 @@ use Rattle.std.proofs.lemmas.Grind.{common_steps}
 use Rattle.c_grammar.specs.DeclarationReading.{initialized_names_from}
 use Rattle.c_cursor.proofs.Turns.{one_more, no_more, behind, behind-behind, behind-nothing}
 use Rattle.c_expressions.specs.Parts.{reader}
-use Rattle.c_declarations.proofs.DeclaredDepths.{initializers-more}
+use Rattle.c_declarations.proofs.Depth.{initializers-more}
 use Rattle.c_declarations.proofs.names.initialized_names.Goals as goal
 
 pub returns-in_err-one : goal.returns-in_err-one
 unfolding initialized_names_from
 returns-in_err-one c =
-    let e = one_more (λ n. behind c.loop-turn.tree (initialized_names_from (reader 200) n c.loop-turn.cursor)) _ c.loop-turn._turn c.loop-turn-test.true c.loop-turn.invariant.reads in
+    let e = one_more (λ n. behind c.loop-turn.tree (initialized_names_from (reader 200) n c.loop-turn.cursor))
+    _ c.loop-turn._turn c.loop-turn-test.true c.loop-turn.invariant.reads in
     first_of (search rules, grind (arith, common_steps, behind-behind, behind-nothing))
 
 pub returns-in_err-expect : goal.returns-in_err-expect
 unfolding initialized_names_from
 returns-in_err-expect c =
-    let e = one_more (λ n. behind c.loop-turn.tree (initialized_names_from (reader 200) n c.loop-turn.cursor)) _ c.loop-turn._turn c.loop-turn-test.true c.loop-turn.invariant.reads in
+    let e = one_more (λ n. behind c.loop-turn.tree (initialized_names_from (reader 200) n c.loop-turn.cursor))
+    _ c.loop-turn._turn c.loop-turn-test.true c.loop-turn.invariant.reads in
     first_of (search rules, grind (arith, common_steps, behind-behind, behind-nothing))
 
 pub returns-then-not-mark : goal.returns-then-not-mark
 unfolding initialized_names_from
 returns-then-not-mark c =
-    let e = one_more (λ n. behind c.loop-turn.tree (initialized_names_from (reader 200) n c.loop-turn.cursor)) _ c.loop-turn._turn c.loop-turn-test.true c.loop-turn.invariant.reads in
+    let e = one_more (λ n. behind c.loop-turn.tree (initialized_names_from (reader 200) n c.loop-turn.cursor))
+    _ c.loop-turn._turn c.loop-turn-test.true c.loop-turn.invariant.reads in
     first_of (search rules, grind (arith, common_steps, behind-behind, behind-nothing, initializers-more))
 
 pub loop-turn-preserved : goal.loop-turn-preserved
 unfolding initialized_names_from
 loop-turn-preserved c =
-    let e = one_more (λ n. behind c.loop-turn.tree (initialized_names_from (reader 200) n c.loop-turn.cursor)) _ c.loop-turn._turn c.loop-turn-test.true c.loop-turn.invariant.reads in
+    let e = one_more (λ n. behind c.loop-turn.tree (initialized_names_from (reader 200) n c.loop-turn.cursor))
+    _ c.loop-turn._turn c.loop-turn-test.true c.loop-turn.invariant.reads in
     first_of (search rules, grind (arith, common_steps, behind-behind, behind-nothing, initializers-more))
 
 pub returns : goal.returns
 unfolding initialized_names_from
 returns c =
-    let e = no_more (λ n. behind c.loop-turn.tree (initialized_names_from (reader 200) n c.loop-turn.cursor)) _ c.loop-turn._turn c.loop-turn-test.false c.loop-turn.invariant.reads in
+    let e = no_more (λ n. behind c.loop-turn.tree (initialized_names_from (reader 200) n c.loop-turn.cursor))
+    _ c.loop-turn._turn c.loop-turn-test.false c.loop-turn.invariant.reads in
     first_of (search rules, grind (arith, common_steps, behind-behind, behind-nothing))

@@ -1,26 +1,28 @@
 -- How deep declared types are, and lists of them that grow at their end.
-use Rattle.std.proofs.Common.{◌≡◌, ℕ, ◌+◌, max, List, [], ◌∷◌, ◌++◌, length, map, Option, Some, None, refl, sym, ap, ◌∙◌, rules, arith}
+use Rattle.std.proofs.Common.{◌≡◌, ℕ, ◌+◌, max, List, [], ◌∷◌, ◌++◌, length, map, refl, ap, ◌∙◌, rules}
 use Rattle.c_syntax.specs.declared.attribute.Attribute.{Attribute}
 use Rattle.c_syntax.specs.declared.name.Name.{Name}
 use Rattle.c_syntax.specs.declared.declaration.InitDeclarator.{InitDeclarator}
 use Rattle.c_syntax.specs.declared.declarator.Declarator.{Declarator}
 use Rattle.c_syntax.specs.declared.declarator.Parameter.{Parameter}
-use Rattle.c_syntax.specs.declared.declarator.ParameterDeclarator.TheVariants as parameters
 use Rattle.c_syntax.specs.declared.expr.Expr.{Expr}
 use Rattle.c_syntax.specs.declared.expr.ExprKind.{the_lemmas}
 use Rattle.c_syntax.specs.declared.specifier.MemberDeclaration.{MemberDeclaration}
 use Rattle.c_syntax.specs.declared.specifier.RecordKind.{RecordKind}
 use Rattle.c_syntax.specs.declared.specifier.TypeSpecifier.{TypeSpecifier}
 use Rattle.c_syntax.specs.declared.specifier.TypeSpecifier.TheVariants as specifiers
-use Rattle.c_syntax.specs.Depth.{expression_depth, specifier_depth, declared_depth, initialized_depth, parameter_type_depth, parameter_depth, deepest, array_depth}
+use Rattle.c_syntax.specs.Depth.{expression_depth, specifier_depth, declared_depth, initialized_depth, deepest}
+use Rattle.c_syntax.specs.Depth.{array_depth, parameter_type_depth, parameter_depth}
 use Rattle.c_grammar.specs.Depths.{member_depth, declarator_depth}
 use Rattle.c_grammar.specs.Declarations.{declarator, unnamed_parameter, definition, member_declaration}
 use Rattle.c_expressions.specs.Parts.{lengths_depth}
 use Rattle.c_expressions.proofs.TypeDepths.{array-depth, deepest-append, map-append-one, length-depths}
-use Rattle.c_declarations.specs.Parts.{declared_name, declarators_depth, initializers_depth, parameters_depth, members_depth}
+use Rattle.c_declarations.specs.Parts.{declared_name, declarators_depth, initializers_depth}
+use Rattle.c_declarations.specs.Parts.{parameters_depth, members_depth}
 
 -- the depth of a type by that of its arrays' lengths
-pub array-of : (ls : List Expr) (element : ℕ) → array_depth (map expression_depth ls) element ≡ max (lengths_depth ls) (length ls + element)
+pub array-of : (ls : List Expr) (element : ℕ)
+    → array_depth (map expression_depth ls) element ≡ max (lengths_depth ls) (length ls + element)
 array-of ls element =
     array-depth (map expression_depth ls) element
     ∙ ap (λ n. max (lengths_depth ls) (n + element)) (length-depths expression_depth ls)
@@ -80,7 +82,8 @@ folded-map s [] = refl
 folded-map s (d ∷ ds) = let one = depth-folded s d in let others = folded-map s ds in cc
 
 pub depth-member : (attributes : List Attribute) (s : TypeSpecifier) (ds : List Declarator)
-    → member_depth (member_declaration attributes s ds) ≡ max (specifier_depth s) (declarators_depth (specifier_depth s) ds)
+    → member_depth (member_declaration attributes s ds)
+    ≡ max (specifier_depth s) (declarators_depth (specifier_depth s) ds)
 depth-member attributes s ds =
     depth-members attributes s ds
     ∙ ap (λ depths. max (specifier_depth s) (deepest depths)) (folded-map (specifier_depth s) ds)

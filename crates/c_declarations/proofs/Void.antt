@@ -9,6 +9,7 @@ use Rattle.c_grammar.specs.DeclarationReading.{parameter_list}
 use Rattle.c_grammar.proofs.DeclarationsRead.{parameters-read}
 use Rattle.c_expressions.specs.Parts.{reader}
 
-pub void_alone : (from behind to : Input) → type_start from ≡ Some (record { start = types.Void; rest = behind })
+pub alone : (from behind to : Input) → type_start from ≡ Some (record { start = types.Void; rest = behind })
     → mark marks.CloseParenthesis behind ≡ Some to → parameter_list (reader 200) from ≡ Some ([], to)
-void_alone from behind to begins closes = parameters-read 200 (grammar.Parameters.void begins closes) (omega arith) (omega arith)
+alone from behind to begins closes =
+    parameters-read 200 (grammar.Parameters.void begins closes) (omega arith) (omega arith)
