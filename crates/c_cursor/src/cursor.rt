@@ -324,7 +324,10 @@ impl<'a> Cursor<'a> {
 
     /// Ends a block: of the declarations in scope only the first so many stay.
     pub fn leave(&mut self, scope: usize)
-        ensures { self.new ≡ record { tokens = self.old.tokens; names = drop (length self.old.names - scope) self.old.names } }
+        ensures { self.new ≡ record {
+          tokens = self.old.tokens;
+          names = drop (length self.old.names - scope) self.old.names;
+        } }
     {
         self.names.truncate(scope);
     }

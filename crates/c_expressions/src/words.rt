@@ -9,7 +9,10 @@ ghost use Rattle.c_grammar.specs.Input.{Input};
 ghost use Rattle.c_cursor.specs.Reads.{IsRefusal};
 
 use crate::parts::Specified;
-use c_cursor::{DEPTH_LIMIT, Deep, ParseRefusal, integer_type, is_integer_word, is_modifier, is_qualifier, modifiers};
+use c_cursor::{
+    DEPTH_LIMIT, Deep, ParseRefusal, integer_type, is_integer_word, is_modifier, is_qualifier,
+    modifiers,
+};
 use c_lexer::{Keyword, Token, TokenKind};
 use c_syntax::TypeSpecifier;
 use rc_text::Place;

@@ -43,8 +43,11 @@ pub ended : (s : TypeSpecifier) (behind inner start stop : Input) (tree : Functi
     → place_of (declares inner tree.name.text names.Ordinary) ≡ Some place
     → list_all (λ parameter. is_named parameter.declarator) tree.parameters ≡ true
     → with_body s tree place start ≡ Some (kind, stop) → scope ≡ length behind.names
-    → functions 200 s behind ≡ Some (kind, declares
-    (record { tokens = stop.tokens; names = drop (length stop.names - scope) stop.names }) tree.name.text names.Ordinary)
+    → functions 200 s behind ≡ Some (
+      kind,
+      declares
+          (record { tokens = stop.tokens; names = drop (length stop.names - scope) stop.names }) tree.name.text names.Ordinary,
+    )
 unfolding functions defined function_body with_body
 ended s behind inner start stop tree place kind scope f m p n b e =
     into_onward (children_from (reader 200) (kind_at (reader 200) 200) outermost (turns start) start) _ _ b λ children to c same.
@@ -102,7 +105,8 @@ pub alone_by : (s : TypeSpecifier) (behind inner shown closed after : Input) (tr
 alone_by s behind inner shown closed after tree scope name again f n d m e i n2 j =
     let shown_is : shown ≡ declares inner tree.name.text names.Ordinary =
     d ∙ ap (λ (t : List ℕ). declares inner t names.Ordinary) n in
-    let last : after ≡ declares (record { tokens = inner.tokens;
+    let last : after ≡ declares (record {
+      tokens = inner.tokens;
       names = drop (length (declares inner tree.name.text names.Ordinary).names - scope) (declares inner tree.name.text names.Ordinary).names;
     }) tree.name.text names.Ordinary =
     j ∙ ap (λ (t : List ℕ). declares closed t names.Ordinary) n2

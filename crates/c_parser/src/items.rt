@@ -20,8 +20,8 @@ use c_grammar::NameKind;
 use c_lexer::{Keyword, Punctuator, Token, TokenKind};
 use c_statements::function_body;
 use c_syntax::{
-    Declaration, DeclarationKind, FunctionDeclarator, FunctionDefinition, InitDeclarator, Item, ItemKind,
-    Parameter, ParameterDeclarator, Stmt, StmtKind, TypeSpecifier,
+    Declaration, DeclarationKind, FunctionDeclarator, FunctionDefinition, InitDeclarator, Item,
+    ItemKind, Parameter, ParameterDeclarator, Stmt, StmtKind, TypeSpecifier,
 };
 use rc_text::{Bytes, Place};
 use sqlite_items::Items;
@@ -40,7 +40,9 @@ fn at_second_storage(start: &[Token]) -> ParseRefusal
             before = true;
         }
     }
-    ParseRefusal::Syntax { place: Place::START }
+    ParseRefusal::Syntax {
+        place: Place::START,
+    }
 }
 
 fn is_storage(kind: TokenKind) -> bool {
@@ -254,7 +256,9 @@ fn body_place(cursor: &Cursor<'_>) -> Option<Place>
     ensures { BeginsBody cursor.now result }
 {
     match cursor.peek() {
-        Some(token) if token.kind == TokenKind::Punctuator(Punctuator::OpenBrace) => Some(token.place),
+        Some(token) if token.kind == TokenKind::Punctuator(Punctuator::OpenBrace) => Some(
+            token.place,
+        ),
         _ => None,
     }
 }

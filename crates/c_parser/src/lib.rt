@@ -1,5 +1,5 @@
-//! The reader of whole C files (C11 6.9): from tokens to the tree that the grammar gives them, or why there is none. The
-//! layers below read expressions, declarations and statements; a user of the tree calls `parse`.
+//! The reader of whole C files (C11 6.9): from tokens to the tree that the grammar gives them, or why there is none.
+//! The layers below read expressions, declarations and statements; a user of the tree calls `parse`.
 #![tactic(auto)]
 
 mod items;
@@ -9,4 +9,3 @@ mod tests;
 
 pub use c_cursor::{LeftOut, ParseRefusal};
 pub use parser::parse;
-

@@ -44,12 +44,12 @@ fn deep_only_of_many(tokens: &Tokens, refusal: ParseRefusal) -> ParseRefusal
 ///
 /// # Errors
 ///
-/// `Syntax` and `Refused` at a token at which the file can't go on, or at its end; `Depth` where more than 200 statements,
-/// expressions and types lie in one another.
+/// `Syntax` and `Refused` at a token at which the file can't go on, or at its end; `Depth` where more than 200
+/// statements, expressions and types lie in one another.
 pub fn parse(alloc: Global, tokens: &Tokens) -> Result<Unit, ParseRefusal>
     // A tree that is given is the file's.
     ensures sound { IfOk result (λ tree. Derives tokens.now tree × (unit_depth tree ≤ 200)) }
-    // A file's tree is given, unless memory runs out: so a refusal comes only where the file has no tree within the depth.
+    // A file's tree is given, unless memory runs out: so a refusal comes only where there is none within the depth.
     ensures complete { (tree : Unit) → Derives tokens.now tree → unit_depth tree ≤ 200
         → (result ≡ Ok tree) ⊎ (result ≡ Err refusals.NoMemory) }
     ensures deep { result ≡ Err refusals.Depth → 100 < length tokens.now.tokens }

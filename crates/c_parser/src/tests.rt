@@ -25,8 +25,7 @@ fn outcome(rt: &impl Abort, alloc: Global, text: &[u8]) -> Result<String, Fail> 
         }
         Err(ParseRefusal::Syntax { place }) => Ok(format!(in alloc;
             "{}:{} syntax",
-            place.line,
-            place.column
+            place.line, place.column
         )?),
         Err(ParseRefusal::Refused { place, name }) => Ok(format!(in alloc;
             "{}:{} {}",

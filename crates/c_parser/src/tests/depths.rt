@@ -25,6 +25,7 @@ fn nested(
 }
 
 const FUNCTION: (&[u8], &[u8]) = (b"int f(void) {", b"}");
+
 const EXPRESSION: (&[u8], &[u8]) = (b"int f(void) {", b";}");
 
 /// The function's body is one node, and each of these is one in another; an expression stands in a statement.

@@ -1,9 +1,9 @@
 //! Trees in print, in a short form: what stands in one another stands in brackets.
 use c_lexer::HeaderType;
 use c_syntax::{
-    Attribute, Declaration, DeclarationKind, Declarator, Expr, ExprKind, ForInit, FunctionDeclarator,
-    InitDeclarator, IntegerType, Item, ItemKind, Label, Parameter, ParameterDeclarator, RecordKind,
-    Stmt, StmtKind, TypeSpecifier, Unit,
+    Attribute, Declaration, DeclarationKind, Declarator, Expr, ExprKind, ForInit,
+    FunctionDeclarator, InitDeclarator, IntegerType, Item, ItemKind, Label, Parameter,
+    ParameterDeclarator, RecordKind, Stmt, StmtKind, TypeSpecifier, Unit,
 };
 use rc_text::{Bytes, NoMemory};
 

@@ -10,12 +10,11 @@ use Rattle.c_parser.proofs.items.functions.Goals as goal
 
 pub returns-in-Some : goal.returns-in-Some
 returns-in-Some c =
-    let all : list_all (λ parameter. is_named parameter.declarator) c.in_ok-first.first.tree.parameters ≡ true = grind (arith, common_steps) in
-    (
+    let all : list_all (λ parameter. is_named parameter.declarator) c.in_ok-first.first.tree.parameters ≡ true = grind (arith, common_steps) in (
       ended_by _ _ _ _ _ _ _ _ _ _ _ _ _ _ c.in_ok-first.ensures.0
-      (c.as_slice-2.ensures ∙ c.in_ok-name.ensures ∙ c.as_slice.ensures) c.in_ok-declare.ensures c.in-Some.ensures.0
-      c.in-Some.ensures.1 all c.skip.ensures c.in_ok-item-in-Some.ensures.0 c.scope-scope.ensures c.leave.ensures
-      (c.as_slice-in-Some-2.ensures ∙ c.in_ok-name.ensures ∙ c.as_slice.ensures) c.in_ok-declare-in-Some.ensures,
+          (c.as_slice-2.ensures ∙ c.in_ok-name.ensures ∙ c.as_slice.ensures) c.in_ok-declare.ensures c.in-Some.ensures.0
+          c.in-Some.ensures.1 all c.skip.ensures c.in_ok-item-in-Some.ensures.0 c.scope-scope.ensures c.leave.ensures
+          (c.as_slice-in-Some-2.ensures ∙ c.in_ok-name.ensures ∙ c.as_slice.ensures) c.in_ok-declare-in-Some.ensures,
       c.in_ok-item-in-Some.ensures.1,
     )
 
