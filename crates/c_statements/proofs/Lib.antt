@@ -1,0 +1,4 @@
+pub mod Depths
+pub mod Scopes
+pub mod Lists
+pub mod Parts
