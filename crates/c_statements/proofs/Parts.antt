@@ -1,9 +1,8 @@
 -- Statements whose scopes end behind them, by the readings of their parts.
-use Rattle.std.proofs.Common.{◌≡◌, ℕ, ◌-◌, false, List, [], length, drop, Option, Some, None, refl, sym, ap, subst, ◌∙◌}
+use Rattle.std.proofs.Common.{◌≡◌, ℕ, ◌-◌, List, [], length, drop, Option, Some, None, refl, sym, ap, subst, ◌∙◌}
 use Rattle.std.proofs.lemmas.Option.{none-some, same_Some}
 use Rattle.c_lexer.specs.declared.keyword.Keyword.TheVariants as words
 use Rattle.c_lexer.specs.declared.punctuator.Punctuator.TheVariants as marks
-use Rattle.c_syntax.specs.declared.attribute.Attribute.{Attribute}
 use Rattle.c_syntax.specs.declared.expr.Expr.{Expr}
 use Rattle.c_syntax.specs.declared.stmt.ForInit.{ForInit}
 use Rattle.c_syntax.specs.declared.stmt.Stmt.{Stmt}
@@ -11,9 +10,9 @@ use Rattle.c_syntax.specs.declared.stmt.StmtKind.{StmtKind}
 use Rattle.c_syntax.specs.declared.stmt.StmtKind.TheVariants as kinds
 use Rattle.c_grammar.specs.Input.{Input, mark}
 use Rattle.c_grammar.specs.Declarations.{under}
-use Rattle.c_grammar.specs.Reading.{Reading, Reader, onward, past, either, turns, attributes, begins_type}
+use Rattle.c_grammar.specs.Reading.{Reading, Reader, onward, past, either, turns}
 use Rattle.c_grammar.specs.Statements.{Position, keyword, in_loop, in_switch}
-use Rattle.c_grammar.specs.StatementReading.{kind_at, tested, optional, begun, begun_expression, statement, children_from, switch_body}
+use Rattle.c_grammar.specs.StatementReading.{kind_at, tested, optional, begun, statement, children_from, switch_body}
 use Rattle.c_grammar.specs.StatementReading.{if_behind, switch_behind, while_behind, do_behind, for_behind}
 use Rattle.c_grammar.proofs.Kept.{Extends, through, left, nothing, mark-kept}
 use Rattle.c_grammar.proofs.StatementsKept.{read_tested-kept, read_optional-kept, read_begun-kept, read_statement-kept}
@@ -45,7 +44,7 @@ unfolding enclosed
 enclosed-onward read from next = onward-under from next (read from)
 
 enclosed-names : {A : Type 0} (from to : Input) (tree : A) (reading : Reading A)
-    → onward reading (λ x rest. Some (x, under from rest)) ≡ Some (tree, to) → to.names ≡ from.names
+    → onward {B = A × Input} reading (λ x rest. Some (x, under from rest)) ≡ Some (tree, to) → to.names ≡ from.names
 enclosed-names from to tree None e = absurd (none-some _ e)
 enclosed-names {A} from to tree (Some x) e =
     ap (λ (pair : A × Input). pair.1.names) (sym (same_Some (x.0, under from x.1) (tree, to) e))
@@ -68,24 +67,27 @@ into_onward (Some x) f y e k = k x.0 x.1 refl e
 -- ---- the second part of an `if`
 
 second-scope : (outer : Input) (test : Expr) (one : Stmt) (reading : Reading Stmt)
-    → onward reading (λ two to. Some (kinds.IfElse test one two, under outer to))
-    ≡ onward (onward reading (λ two to. Some (kinds.IfElse test one two, to))) (λ kind to. Some (kind, under outer to))
+    → onward {B = StmtKind × Input} reading (λ two to. Some (kinds.IfElse test one two, under outer to))
+    ≡ onward {B = StmtKind × Input} (onward {B = StmtKind × Input} reading (λ two to. Some (kinds.IfElse test one two, to)))
+    (λ kind to. Some (kind, under outer to))
 second-scope outer test one None = refl
 second-scope outer test one (Some x) = refl
 
 else-scope : (outer mid : Input) (test : Expr) (one : Stmt) (read : Reader Stmt) (taken : Option Input)
-    → either taken (Some (kinds.If test one, under outer mid))
-    (λ other. onward (read other) λ two to. Some (kinds.IfElse test one two, under outer to))
-    ≡ onward (either taken (Some (kinds.If test one, mid))
-    (λ other. onward (read other) λ two to. Some (kinds.IfElse test one two, to))) (λ kind to. Some (kind, under outer to))
+    → either {B = Reading StmtKind} taken (Some (kinds.If test one, under outer mid))
+    (λ other. onward {B = StmtKind × Input} (read other) λ two to. Some (kinds.IfElse test one two, under outer to))
+    ≡ onward {B = StmtKind × Input} (either {B = Reading StmtKind} taken (Some (kinds.If test one, mid))
+    (λ other. onward {B = StmtKind × Input} (read other) λ two to. Some (kinds.IfElse test one two, to)))
+    (λ kind to. Some (kind, under outer to))
 else-scope outer mid test one read None = refl
 else-scope outer mid test one read (Some other) = second-scope outer test one (read other)
 
 else-kept : (mid to : Input) (test : Expr) (one : Stmt) (kind : StmtKind) (read : Reader Stmt)
     → ((from rest : Input) (tree : Stmt) → read from ≡ Some (tree, rest) → Extends from rest)
     → (taken : Option Input) → ((other : Input) → taken ≡ Some other → Extends mid other)
-    → either taken (Some (kinds.If test one, mid))
-    (λ other. onward (read other) λ two to. Some (kinds.IfElse test one two, to)) ≡ Some (kind, to) → Extends mid to
+    → either {B = Reading StmtKind} taken (Some (kinds.If test one, mid))
+    (λ other. onward {B = StmtKind × Input} (read other) λ two to. Some (kinds.IfElse test one two, to)) ≡ Some (kind, to)
+    → Extends mid to
 else-kept mid to test one kind read kept None behind e =
     subst (λ (i : Input). Extends mid i) (ap (λ (pair : StmtKind × Input). pair.1) (same_Some _ (kind, to) e)) (nothing mid)
 else-kept mid to test one kind read kept (Some other) behind e =
@@ -106,7 +108,7 @@ module _ (room : ℕ) where
       ≡ onward (tested (reader 200) outer) λ test inner.
       onward (enclosed (statement (reader 200) (kind_at (reader 200) room) position) inner) λ one mid.
       onward (perhaps_else (reader 200) (kind_at (reader 200) room) position test one mid) λ kind to. Some (kind, under outer to)
-  unfolding if_behind, perhaps_else
+  unfolding if_behind perhaps_else
   if-parts position outer = same-onward (tested (reader 200) outer)
       (λ test inner. onward (statement (reader 200) (kind_at (reader 200) room) position inner) λ one rest.
       either (keyword words.Else (under inner rest)) (Some (kinds.If test one, under outer rest))
@@ -217,12 +219,3 @@ module _ (room : ℕ) where
       (through (mark-kept marks.CloseParenthesis close rest c)
       (read_statement-kept 200 200 room inside rest body to q))))))) in
       rw (o, b, t, m, s, c, here) (ap (λ (i : Input). Some (kinds.For init test step body, i)) (sym e))
-
--- ---- the first part of a `for` that is an expression
-
-pub begun-expression : (from at behind : Input) (list : List Attribute) → mark marks.Semicolon from ≡ None → at ≡ from
-    → attributes at ≡ Some (list, behind) → false ≡ begins_type behind
-    → begun (reader 200) from ≡ begun_expression (reader 200) behind
-unfolding begun
-begun-expression from at behind list m same a t =
-    let here = rw same at a in let no : begins_type behind ≡ false = sym t in rw (m, here, no) refl

@@ -1,5 +1,5 @@
 -- A keyword or a punctuator leaves the names in scope as they are.
-use Rattle.std.proofs.Common.{◌≡◌, ℕ, Bool, true, false, List, [], ◌∷◌, Some, option_and_then, sym, ap}
+use Rattle.std.proofs.Common.{◌≡◌, ℕ, zero, suc, ◌-◌, ◌<◌, Bool, true, false, List, [], ◌∷◌, Some, option_and_then, refl, sym, ap, arith}
 use Rattle.std.proofs.lemmas.Option.{none-some, same_Some}
 use Rattle.c_lexer.specs.declared.keyword.Keyword.{Keyword}
 use Rattle.c_lexer.specs.declared.keyword.Keyword.TheVariants as words
@@ -14,7 +14,7 @@ use Rattle.c_grammar.specs.Input.{Input, Taken, taken_if, first_of_tokens, mark}
 use Rattle.c_grammar.specs.Reading.{Reader, onward, turns}
 use Rattle.c_grammar.specs.Statements.{Position, keyword}
 use Rattle.c_grammar.specs.StatementReading.{kind_at, children_from, if_behind, switch_behind, while_behind, do_behind}
-use Rattle.c_grammar.specs.StatementReading.{for_behind}
+use Rattle.c_grammar.specs.StatementReading.{for_behind, kind_with}
 use Rattle.c_expressions.specs.Parts.{reader}
 use Rattle.c_statements.specs.Productions.{compound_behind}
 
@@ -92,3 +92,11 @@ compound-same room position from inner e =
     (sym (mark-names marks.OpenBrace from inner e))
 
 pub ruleset same_names = (if-same, switch-same, while-same, do-same, for-same, compound-same)
+
+-- ---- statements by the room that is left
+
+pub kind-more : (room : ℕ) (position : Position) (from : Input) → 0 < room → kind_at (reader 200) room position from
+    ≡ kind_with (reader 200) (kind_at (reader 200) (room - 1)) position from
+unfolding kind_at
+kind-more zero position from some = absurd (omega arith)
+kind-more (suc room) position from some = let e : suc room - 1 ≡ room = omega arith in rw e refl

@@ -8,6 +8,7 @@ ghost use Rattle.c_grammar.specs.StatementReading.{tested, optional, begun_expre
 ghost use Rattle.c_cursor.specs.Deep.{ReadsDeep};
 ghost use Rattle.c_expressions.specs.Parts.{reader};
 ghost use Rattle.c_statements.specs.Parts.{optional_depth};
+ghost use Rattle.c_statements.specs.Productions.{begun_attributed, begun_other};
 
 use c_cursor::{COMMA_LEVEL, Cursor, Deep, ParseRefusal, attributes};
 use c_declarations::local_declaration;
@@ -114,6 +115,36 @@ fn begun_declaration(
     }
 }
 
+/// The first part of a `for` that has attributes: a declaration.
+#[tactic(auto, unfolding(crate::specs::Productions::begun_attributed))]
+fn begun_attributed(
+    alloc: Global,
+    cursor: &mut Cursor<'_>,
+) -> Result<Deep<ForInit>, ParseRefusal>
+    ensures { ReadsDeep init_depth (begun_attributed (reader 200) cursor.old) result cursor.new }
+{
+    let list = attributes(alloc, cursor)?;
+    if cursor.begins_type() {
+        begun_declaration(alloc, cursor, list)
+    } else {
+        Err(cursor.unexpected())
+    }
+}
+
+/// The first part of a `for`, where there is one.
+#[tactic(auto, unfolding(crate::specs::Productions::begun_other))]
+fn begun_other(alloc: Global, cursor: &mut Cursor<'_>) -> Result<Deep<ForInit>, ParseRefusal>
+    ensures { ReadsDeep init_depth (begun_other (reader 200) cursor.old) result cursor.new }
+{
+    if stands(cursor, Punctuator::OpenBracket) {
+        begun_attributed(alloc, cursor)
+    } else if cursor.begins_type() {
+        begun_declaration(alloc, cursor, Items::new(alloc))
+    } else {
+        begun_expression(alloc, cursor)
+    }
+}
+
 /// The first part of a `for`, with its semicolon.
 #[tactic(auto, unfolding(c_grammar::specs::StatementReading::begun))]
 pub(crate) fn begun(
@@ -123,15 +154,11 @@ pub(crate) fn begun(
     ensures { ReadsDeep init_depth (begun (reader 200) cursor.old) result cursor.new }
 {
     if cursor.mark(Punctuator::Semicolon) {
-        return Ok(Deep {
+        Ok(Deep {
             tree: ForInit::Nothing,
             depth: 0,
-        });
-    }
-    let list = attributes(alloc, cursor)?;
-    if cursor.begins_type() {
-        begun_declaration(alloc, cursor, list)
+        })
     } else {
-        begun_expression(alloc, cursor)
+        begun_other(alloc, cursor)
     }
 }

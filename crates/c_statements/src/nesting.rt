@@ -30,7 +30,8 @@ impl<
         position: Position,
     ) -> Result<Deep<StmtKind>, ParseRefusal>
         requires { Nests self.now.room (F.pre self.now.read.now) (F.post self.now.read.now) }
-        ensures { ReadsDeep kind_depth (kind_at (reader 200) self.now.room (position_seen position) cursor.old) result cursor.new }
+        ensures { ReadsDeep kind_depth (kind_at (reader 200) self.now.room (position_seen position) cursor.old)
+            result cursor.new }
     {
         (self.read)(self.alloc, cursor, self.room, position)
     }

@@ -261,7 +261,8 @@ impl<
     }
 
     /// What a keyword begins, or an expression.
-    #[tactic(auto, using(crate::proofs::Scopes::same_names), unfolding(c_grammar::specs::StatementReading::keyword_kind))]
+    #[tactic(auto, using(crate::proofs::Scopes::same_names),
+        unfolding(c_grammar::specs::StatementReading::keyword_kind))]
     fn keyword_kind(
         &self,
         cursor: &mut Cursor<'_>,

@@ -1,7 +1,9 @@
-use Rattle.c_statements.proofs.Parts.{begun-expression}
+use Rattle.std.proofs.Common.{rules, arith}
+use Rattle.std.proofs.lemmas.Grind.{common_steps}
+use Rattle.c_statements.proofs.Heads.{begun-other}
 use Rattle.c_statements.proofs.heads.begun.Goals as goal
 
-pub returns-else-begins_type : goal.returns-else-begins_type
-returns-else-begins_type c =
-    let e = begun-expression c.args.cursor.now c.mark.new.self c.attributes.new.cursor c.in_ok-list.list c.if-mark.ensures.0 c.if-mark.ensures.1 c.in_ok-list.ensures c.if-begins_type.ensures in
-    rw e c.begun_expression.ensures
+pub returns-else-mark : goal.returns-else-mark
+returns-else-mark c =
+    let e = begun-other c.args.cursor.now c.if-mark.ensures.0 in let same = c.if-mark.ensures.1 in
+    first_of (rw (e, ← same) c.begun_other.ensures, grind (arith, common_steps))
