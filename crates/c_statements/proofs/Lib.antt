@@ -2,4 +2,4 @@ pub mod Depths
 pub mod Scopes
 pub mod Lists
 pub mod Parts
-pub mod Heads
+pub mod Beginnings
