@@ -91,7 +91,7 @@ compound-same room position from inner e =
     Some (kinds.Compound children, record { tokens = to.tokens; names = names }))
     (sym (mark-names marks.OpenBrace from inner e))
 
-pub ruleset same_names = (if-same, switch-same, while-same, do-same, for-same, compound-same)
+pub ruleset same = (if-same, switch-same, while-same, do-same, for-same, compound-same)
 
 -- ---- statements by the room that is left
 

@@ -25,7 +25,8 @@ compound_behind expression inner_kind position inner =
     Some (kinds.Compound children, under inner to)
 
 -- what stands behind the first statement of an `if`
-unfoldable pub perhaps_else : (ℕ → Reader Expr) → (Position → Reader StmtKind) → Position → Expr → Stmt → Reader StmtKind
+unfoldable pub perhaps_else : (ℕ → Reader Expr) → (Position → Reader StmtKind) → Position → Expr → Stmt
+    → Reader StmtKind
 perhaps_else expression inner_kind position test one from = either (keyword words.Else from)
     (Some (kinds.If test one, from))
     (λ other. onward (statement expression inner_kind position other) λ two to. Some (kinds.IfElse test one two, to))

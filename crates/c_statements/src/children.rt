@@ -102,11 +102,7 @@ impl<
 
     /// A child of a compound without labels: a declaration or a statement.
     #[tactic(auto, unfolding(c_grammar::specs::StatementReading::child))]
-    fn child(
-        &self,
-        cursor: &mut Cursor<'_>,
-        position: Position,
-    ) -> Result<Deep<Stmt>, ParseRefusal>
+    fn child(&self, cursor: &mut Cursor<'_>, position: Position) -> Result<Deep<Stmt>, ParseRefusal>
         requires { Nests self.now.room (F.pre self.now.read.now) (F.post self.now.read.now) }
         ensures { ReadsDeep statement_depth (child (reader 200) (kind_at (reader 200) self.now.room)
             (position_seen position) cursor.old) result cursor.new }

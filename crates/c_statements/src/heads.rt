@@ -76,10 +76,7 @@ pub(crate) fn optional(
 
 /// The first part of a `for` that is an expression.
 #[tactic(auto, unfolding(c_grammar::specs::StatementReading::begun_expression))]
-fn begun_expression(
-    alloc: Global,
-    cursor: &mut Cursor<'_>,
-) -> Result<Deep<ForInit>, ParseRefusal>
+fn begun_expression(alloc: Global, cursor: &mut Cursor<'_>) -> Result<Deep<ForInit>, ParseRefusal>
     ensures { ReadsDeep init_depth (begun_expression (reader 200) cursor.old) result cursor.new }
 {
     let found = expression(alloc, cursor, COMMA_LEVEL)?;
@@ -117,10 +114,7 @@ fn begun_declaration(
 
 /// The first part of a `for` that has attributes: a declaration.
 #[tactic(auto, unfolding(crate::specs::Productions::begun_attributed))]
-fn begun_attributed(
-    alloc: Global,
-    cursor: &mut Cursor<'_>,
-) -> Result<Deep<ForInit>, ParseRefusal>
+fn begun_attributed(alloc: Global, cursor: &mut Cursor<'_>) -> Result<Deep<ForInit>, ParseRefusal>
     ensures { ReadsDeep init_depth (begun_attributed (reader 200) cursor.old) result cursor.new }
 {
     let list = attributes(alloc, cursor)?;
@@ -147,10 +141,7 @@ fn begun_other(alloc: Global, cursor: &mut Cursor<'_>) -> Result<Deep<ForInit>, 
 
 /// The first part of a `for`, with its semicolon.
 #[tactic(auto, unfolding(c_grammar::specs::StatementReading::begun))]
-pub(crate) fn begun(
-    alloc: Global,
-    cursor: &mut Cursor<'_>,
-) -> Result<Deep<ForInit>, ParseRefusal>
+pub(crate) fn begun(alloc: Global, cursor: &mut Cursor<'_>) -> Result<Deep<ForInit>, ParseRefusal>
     ensures { ReadsDeep init_depth (begun (reader 200) cursor.old) result cursor.new }
 {
     if cursor.mark(Punctuator::Semicolon) {

@@ -119,10 +119,7 @@ pub(crate) fn expression(inner: Deep<Boxed<Expr>>) -> Deep<StmtKind>
 }
 
 #[tactic(auto, using(crate::proofs::Depths::depths))]
-pub(crate) fn if_then(
-    test: Deep<Boxed<Expr>>,
-    then: Deep<Boxed<Stmt>>,
-) -> Deep<StmtKind>
+pub(crate) fn if_then(test: Deep<Boxed<Expr>>, then: Deep<Boxed<Stmt>>) -> Deep<StmtKind>
     requires test { IsDeep expression_depth test }
     requires then { IsDeep statement_depth then }
     ensures tree { result.tree ≡ kinds.If test.tree then.tree }
@@ -160,10 +157,7 @@ pub(crate) fn if_else(
 }
 
 #[tactic(auto, using(crate::proofs::Depths::depths))]
-pub(crate) fn switch(
-    value: Deep<Boxed<Expr>>,
-    body: Deep<Boxed<Stmt>>,
-) -> Deep<StmtKind>
+pub(crate) fn switch(value: Deep<Boxed<Expr>>, body: Deep<Boxed<Stmt>>) -> Deep<StmtKind>
     requires value { IsDeep expression_depth value }
     requires body { IsDeep statement_depth body }
     ensures tree { result.tree ≡ kinds.Switch value.tree body.tree }
@@ -179,10 +173,7 @@ pub(crate) fn switch(
 }
 
 #[tactic(auto, using(crate::proofs::Depths::depths))]
-pub(crate) fn while_loop(
-    test: Deep<Boxed<Expr>>,
-    body: Deep<Boxed<Stmt>>,
-) -> Deep<StmtKind>
+pub(crate) fn while_loop(test: Deep<Boxed<Expr>>, body: Deep<Boxed<Stmt>>) -> Deep<StmtKind>
     requires test { IsDeep expression_depth test }
     requires body { IsDeep statement_depth body }
     ensures tree { result.tree ≡ kinds.While test.tree body.tree }
@@ -198,10 +189,7 @@ pub(crate) fn while_loop(
 }
 
 #[tactic(auto, using(crate::proofs::Depths::depths))]
-pub(crate) fn do_loop(
-    body: Deep<Boxed<Stmt>>,
-    test: Deep<Boxed<Expr>>,
-) -> Deep<StmtKind>
+pub(crate) fn do_loop(body: Deep<Boxed<Stmt>>, test: Deep<Boxed<Expr>>) -> Deep<StmtKind>
     requires body { IsDeep statement_depth body }
     requires test { IsDeep expression_depth test }
     ensures tree { result.tree ≡ kinds.Do body.tree test.tree }

@@ -239,7 +239,7 @@ impl<
     }
 
     /// A loop, or what no keyword of a loop begins.
-    #[tactic(auto, using(crate::proofs::Scopes::same_names), unfolding(c_grammar::specs::StatementReading::loop_kind))]
+    #[tactic(auto, using(crate::proofs::Scopes::same), unfolding(c_grammar::specs::StatementReading::loop_kind))]
     fn loop_kind(
         &self,
         cursor: &mut Cursor<'_>,
@@ -261,8 +261,7 @@ impl<
     }
 
     /// What a keyword begins, or an expression.
-    #[tactic(auto, using(crate::proofs::Scopes::same_names),
-        unfolding(c_grammar::specs::StatementReading::keyword_kind))]
+    #[tactic(auto, using(crate::proofs::Scopes::same), unfolding(c_grammar::specs::StatementReading::keyword_kind))]
     fn keyword_kind(
         &self,
         cursor: &mut Cursor<'_>,
@@ -282,7 +281,7 @@ impl<
     }
 
     /// A statement behind its labels and attributes.
-    #[tactic(auto, using(crate::proofs::Scopes::same_names), unfolding(c_grammar::specs::StatementReading::kind_with))]
+    #[tactic(auto, using(crate::proofs::Scopes::same), unfolding(c_grammar::specs::StatementReading::kind_with))]
     fn kind(
         &self,
         cursor: &mut Cursor<'_>,

@@ -18,9 +18,10 @@ pub returns-then-not-begins_label : goal.returns-then-not-begins_label
 returns-then-not-begins_label c =
     let e = one_more (λ n. behind c.loop-turn.tree (labels_from (reader 200) n c.loop-turn.cursor)) _ c.loop-turn._turn c.loop-turn-test.true c.loop-turn.invariant.reads in
     let m = labels-last (c.turns-turn-end.result - (c.loop-turn._turn + 1)) c.loop-turn.cursor c.label.new.cursor c.loop-turn.tree c.in_ok-one.one.tree c.in_ok-one.ensures.0 (sym c.begins_label.ensures ∙ c.if-not-begins_label.true) in
-    let d = counted-one_more label_depth c.loop-turn.tree c.in_ok-one.one.tree c.in_ok-one.one.depth c.loop-turn.depth c.in_ok-one.ensures.1 c.loop-turn.invariant.depth in
-    ((e ∙ m) ∙ ap (λ list. Some (list, c.label.new.cursor)) (sym c.in_ok-push.ensures.ok),
-    rw c.in_ok-push.ensures.ok (omega (arith, d)))
+    let d = counted-one_more label_depth c.loop-turn.tree c.in_ok-one.one.tree c.in_ok-one.one.depth c.loop-turn.depth c.in_ok-one.ensures.1 c.loop-turn.invariant.depth in (
+      (e ∙ m) ∙ ap (λ list. Some (list, c.label.new.cursor)) (sym c.in_ok-push.ensures.ok),
+      rw c.in_ok-push.ensures.ok (omega (arith, d)),
+    )
 
 pub loop-turn-preserved : goal.loop-turn-preserved
 loop-turn-preserved c =
