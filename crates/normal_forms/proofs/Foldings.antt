@@ -295,10 +295,10 @@ computable_other =
 folded_when : (t : Term) → is_computable t ≡ false → chosen t ≡ t → (folded t ≡ t) × (folding_passes t ≡ false)
 folded_when t e f = (ap (λ b. cond b (literal_of (value_of [] t) t) (chosen t)) e ∙ f, ap (λ b. b && passes_width [] t) e)
 
-unary_chosen : (operator : UnaryOperator) (a : Term) → chosen (terms.Unary operator a) ≡ terms.Unary operator a
+pub unary_chosen : (operator : UnaryOperator) (a : Term) → chosen (terms.Unary operator a) ≡ terms.Unary operator a
 unary_chosen operator a = ap chosen (sym (terms.rolls-Unary operator a)) ∙ chosen_at (Term-F.Unary operator a)
 
-binary_chosen : (operator : BinaryOperator) (a b : Term) → chosen (terms.Binary operator a b) ≡ terms.Binary operator a b
+pub binary_chosen : (operator : BinaryOperator) (a b : Term) → chosen (terms.Binary operator a b) ≡ terms.Binary operator a b
 binary_chosen operator a b = ap chosen (sym (terms.rolls-Binary operator a b)) ∙ chosen_at (Term-F.Binary operator a b)
 
 abbrev pub IsFolded : Term → Type 0

@@ -15,6 +15,7 @@ pub mod Negations
 pub mod OneForm
 pub mod Ordered
 pub mod Passings
+pub mod PropositionAgain
 pub mod PushedSorts
 pub mod Pushes
 pub mod Roots

@@ -61,7 +61,7 @@ module _ (names : Names) where
       binary_at (turned negative operator) a b
       ∙ ap (λ f. option_and_then (λ first. option_and_then (f first) (sort b)) (sort a)) e ∙ sym (binary_at operator a b) ∙ h
 
-  truth_parts : (operator : BinaryOperator) (a b : Term)
+  pub truth_parts : (operator : BinaryOperator) (a b : Term)
       → binary_sort operator ≡ (λ first second. given (are first second sorts.Bool sorts.Bool) sorts.Bool)
       → IsBool (terms.Binary operator a b) → IsBool a × IsBool b
   truth_parts operator a b e h =
@@ -110,10 +110,14 @@ module _ (names : Names) where
   negated (Some sorts.Bool) e = refl
   negated o e = cc
 
+  pub operand_truth : (a : Term) → IsBool (terms.Unary unary.Not a) → IsBool a
+  operand_truth a h =
+      negated (sort a) (sym (ap sort (sym (terms.rolls-Unary unary.Not a)) ∙ at (Term-F.Unary unary.Not a)) ∙ h)
+
   unary_keeps : (operator : UnaryOperator) (a : Part) (negative : Bool) → IsBool (terms.Unary operator a.0)
       → IsBool (unary_pushed operator (side a) negative)
   unary_keeps unary.Not a negative h =
-      a.1 (not negative) (negated (sort a.0) (sym (ap sort (sym (terms.rolls-Unary unary.Not a.0)) ∙ at (Term-F.Unary unary.Not a.0)) ∙ h))
+      a.1 (not negative) (operand_truth a.0 h)
   unary_keeps operator a negative h = signed_sort (terms.Unary operator a.0) negative h
 
   rolled_by : (x : Term-F Term) (negative : Bool)
@@ -130,7 +134,7 @@ module _ (names : Names) where
       → IsBool (roll-Term x) → IsBool (pushed (roll-Term x) negative)
   as_signed x t negative e is h = ap sort e ∙ signed_sort t negative (ap sort (sym is) ∙ h)
 
-  test_sort : (a b c : Option Sort) → conditional_sort a b c ≡ Some sorts.Bool → a ≡ Some sorts.Bool
+  pub test_sort : (a b c : Option Sort) → conditional_sort a b c ≡ Some sorts.Bool → a ≡ Some sorts.Bool
   test_sort a None c e = cc
   test_sort a (Some t) c e =
       has_is names sorts.Bool a (both (has sorts.Bool a) (has t c) (given_is names (has sorts.Bool a && has t c) t sorts.Bool e).0).0

@@ -71,6 +71,12 @@ pub fn normal_props_keep_sorts()
         sort_under names (normal_prop names term) ≡ Some sorts.Bool }
 {}
 
+/// A proposition in normal form is its own normal form.
+pub fn normal_props_are_their_own()
+    ensures { (names : Names) (term : Term) → sort_under names term ≡ Some sorts.Bool →
+        normal_prop names (normal_prop names term) ≡ normal_prop names term }
+{}
+
 /// A number in normal form is its own normal form.
 pub fn normal_sums_are_their_own()
     ensures { (term : Term) → normal_sum (normal_sum term) ≡ normal_sum term }
