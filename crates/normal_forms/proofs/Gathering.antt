@@ -1,5 +1,8 @@
 -- A polynomial in the code's map, entry by entry.
-use Rattle.std.proofs.Common.{◌≡◌, Bool, true, false, not, cond, [], ◌∷◌, refl, ap, ◌∙◌, sym, ℤ, pos, ◌+ℤ◌, Option, Some, None, unwrap_or}
+use Rattle.std.proofs.lemmas.Bool.Decides.{Decides-int_eq}
+use Rattle.rc_terms.specs.Numbers.{holds_in_128_bits}
+use Rattle.normal_forms.specs.Widths.{is_wide}
+use Rattle.std.proofs.Common.{◌≡◌, Bool, true, false, not, ◌||◌, cond, [], ◌∷◌, refl, ap, ◌∙◌, sym, ℤ, pos, ◌+ℤ◌, Option, Some, None, unwrap_or}
 use Rattle.std.proofs.Math.IntN.{+ℤ_idl}
 use Rattle.std.specs.Ordering.{int_eq, match_ordering, is_eq}
 use Rattle.std.specs.BTreeMap.{insert_entry, is_at}
@@ -35,6 +38,26 @@ entry_left p k es zero = ap (λ z. cond (not z) ((p, k) ∷ present es) (present
 
 pub entry_stays : (p : Product) (k : ℤ) (es : Polynomial) → int_eq k (pos 0) ≡ false → is_empty (present ((p, k) ∷ es)) ≡ false
 entry_stays p k es zero = ap (λ z. is_empty (cond (not z) ((p, k) ∷ present es) (present es))) zero
+
+narrow_here : (zero narrow : Bool) (e : Product × ℤ) (es : Polynomial) → not narrow ≡ false
+    → holds_in_128_bits e.1 ≡ narrow → is_wide (cond (not zero) (e ∷ es) es) ≡ is_wide es
+narrow_here true narrow e es is h = refl
+narrow_here false narrow e es is h = ap (λ b. b || is_wide es) (ap not h ∙ is)
+
+pub entry_narrow : (p : Product) (k : ℤ) (es : Polynomial) → not (holds_in_128_bits k) ≡ false
+    → is_wide (present ((p, k) ∷ es)) ≡ is_wide (present es)
+entry_narrow p k es is = narrow_here (int_eq k (pos 0)) (holds_in_128_bits k) (p, k) (present es) is refl
+
+wide_here : (zero : Bool) (e : Product × ℤ) (es : Polynomial) → int_eq e.1 (pos 0) ≡ zero → not (holds_in_128_bits e.1) ≡ true
+    → is_wide (cond (not zero) (e ∷ es) es) ≡ true
+wide_here true e es at is =
+    let none : e.1 ≡ pos 0 = (Decides-int_eq e.1 (pos 0)).0 at in
+    let narrow : false ≡ true = ap (λ k. not (holds_in_128_bits k)) (sym none) ∙ is in
+    cc
+wide_here false e es at is = ap (λ b. b || is_wide es) is
+
+pub entry_wide : (p : Product) (k : ℤ) (es : Polynomial) → not (holds_in_128_bits k) ≡ true → is_wide (present ((p, k) ∷ es)) ≡ true
+entry_wide p k es is = wide_here (int_eq k (pos 0)) (p, k) (present es) refl is
 
 products_total : IsTotalOrder product_order
 products_total = on_total (λ (p : Product). p.key) nat_list_cmp_total

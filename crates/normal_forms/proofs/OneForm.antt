@@ -117,7 +117,7 @@ present_nonzero [] = tt
 present_nonzero (e ∷ es) = chosen_nonzero (int_eq e.1 (pos 0)) e (present es) refl (present_nonzero es)
 
 -- a product's factor in a polynomial
-abbrev factor_at : Product → Polynomial → ℤ
+abbrev pub factor_at : Product → Polynomial → ℤ
 factor_at p [] = pos 0
 factor_at p (e ∷ es) = cond (is_eq (product_order p e.0)) e.1 (pos 0) +ℤ factor_at p es
 
@@ -212,7 +212,7 @@ same_polynomials (e ∷ es) (f ∷ fs) s t n m h g same =
     same_heads (product_order e.0 f.0) e f es fs refl s t n m h g same
     (same_polynomials es fs s.1 t.1 n.1 m.1 h.1 g.1)
 
-written_factor : (r : Product) (ss : List Summand) → factor_at r (present (gathered [] ss)) ≡ coefficient r ss
+pub written_factor : (r : Product) (ss : List Summand) → factor_at r (present (gathered [] ss)) ≡ coefficient r ss
 written_factor r ss = factor_present r (gathered [] ss) ∙ factor_gathered r [] ss ∙ +ℤ_idl (coefficient r ss)
 
 pub one_polynomial : (a b : List Summand) → ((product : Product) → coefficient product a ≡ coefficient product b)

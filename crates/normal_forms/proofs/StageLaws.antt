@@ -13,7 +13,10 @@ use Rattle.rc_terms.specs.declared.sort.Sort.TheVariants as sorts
 use Rattle.rc_terms.specs.Operators.{number_of, truth_of, list_of, updated, unary, binary}
 use Rattle.rc_terms.specs.Evaluation.{Environment, value_of, value_step}
 use Rattle.rc_terms.specs.Sorting.{sort_under, sort_step, sorts_of, given, has, unary_sort, binary_sort, conditional_sort}
-use Rattle.normal_forms.specs.Normal.{Names, parts_unary, parts_binary, finished, staged}
+use Rattle.normal_forms.specs.Polynomials.{parts_unary, parts_binary}
+use Rattle.normal_forms.specs.Normal.{Names, finished, folded_by_sort, staged}
+use Rattle.normal_forms.specs.Folding.{folded}
+use Rattle.normal_forms.proofs.Foldings.{folded_sort, folded_keeps}
 use Rattle.normal_forms.proofs.Stages.{staged-Variable, staged-Integer, staged-Truth, staged-Null, staged-List, staged-Unary, staged-Binary, staged-Conditional, staged-Update}
 use Rattle.normal_forms.proofs.SortedSums.{normal_sum_sort}
 use Rattle.normal_forms.proofs.WholeSums.{normal_sum_keeps}
@@ -24,13 +27,14 @@ module _ (names : Names) where
   sort t = sort_under names t
 
   finish_sort : (s : Option Sort) (inner : Term) (whole : Bool) → sort inner ≡ s → sort (finished s inner whole) ≡ s
-  finish_sort s inner false e = e
+  finish_sort None inner false e = e
+  finish_sort (Some s) inner false e = folded_sort names inner s e
   finish_sort None inner true e = e
-  finish_sort (Some sorts.Int) inner true e = normal_sum_sort names inner e
-  finish_sort (Some sorts.Bool) inner true e = e
-  finish_sort (Some sorts.Loc) inner true e = normal_location_sort names inner e
-  finish_sort (Some sorts.List) inner true e = e
-  finish_sort (Some sorts.Val) inner true e = e
+  finish_sort (Some sorts.Int) inner true e = normal_sum_sort names (folded inner) (folded_sort names inner sorts.Int e)
+  finish_sort (Some sorts.Bool) inner true e = folded_sort names inner sorts.Bool e
+  finish_sort (Some sorts.Loc) inner true e = normal_location_sort names (folded inner) (folded_sort names inner sorts.Loc e)
+  finish_sort (Some sorts.List) inner true e = folded_sort names inner sorts.List e
+  finish_sort (Some sorts.Val) inner true e = folded_sort names inner sorts.Val e
 
   abbrev KeepsSort : Term → Type 0
   KeepsSort t = (whole : Bool) → sort (staged names t whole) ≡ sort t
@@ -121,14 +125,16 @@ module _ (env : Environment) where
   abbrev value : Term → TermValue
   value t = value_of env t
 
-  finish_value : (s : Option Sort) (inner : Term) (whole : Bool) → sort_under names_of inner ≡ s → value (finished s inner whole) ≡ value inner
-  finish_value s inner false e = refl
+  finish_value : (s : Option Sort) (inner : Term) (whole : Bool) → sort_under names_of (folded_by_sort s inner) ≡ s
+      → value (finished s inner whole) ≡ value inner
+  finish_value None inner false e = refl
+  finish_value (Some s) inner false e = folded_keeps env inner
   finish_value None inner true e = refl
-  finish_value (Some sorts.Int) inner true e = normal_sum_keeps env inner e
-  finish_value (Some sorts.Bool) inner true e = refl
-  finish_value (Some sorts.Loc) inner true e = normal_location_keeps env inner e
-  finish_value (Some sorts.List) inner true e = refl
-  finish_value (Some sorts.Val) inner true e = refl
+  finish_value (Some sorts.Int) inner true e = normal_sum_keeps env (folded inner) e ∙ folded_keeps env inner
+  finish_value (Some sorts.Bool) inner true e = folded_keeps env inner
+  finish_value (Some sorts.Loc) inner true e = normal_location_keeps env (folded inner) e ∙ folded_keeps env inner
+  finish_value (Some sorts.List) inner true e = folded_keeps env inner
+  finish_value (Some sorts.Val) inner true e = folded_keeps env inner
 
   abbrev KeepsValue : Term → Type 0
   KeepsValue t = (whole : Bool) → value (staged names_of t whole) ≡ value t
@@ -146,7 +152,7 @@ module _ (env : Environment) where
   finish_part : (t inner : Term) (whole : Bool) → ((w : Bool) → staged names_of t w ≡ finished (sort_under names_of t) inner w)
       → value inner ≡ value t → value (staged names_of t whole) ≡ value t
   finish_part t inner whole e h =
-      let same : sort_under names_of inner ≡ sort_under names_of t = ap (sort_under names_of) (sym (e false)) ∙ staged_sort names_of t false in
+      let same : sort_under names_of (folded_by_sort (sort_under names_of t) inner) ≡ sort_under names_of t = ap (sort_under names_of) (sym (e false)) ∙ staged_sort names_of t false in
       ap value (e whole) ∙ finish_value (sort_under names_of t) inner whole same ∙ h
 
   values_kept : (parts : List ValuePart)

@@ -8,7 +8,8 @@ use Rattle.rc_terms.specs.declared.term.Term.TheVariants as terms
 use Rattle.rc_terms.specs.declared.operator.UnaryOperator.{UnaryOperator}
 use Rattle.rc_terms.specs.declared.operator.BinaryOperator.{BinaryOperator}
 use Rattle.rc_terms.specs.Sorting.{sort_under}
-use Rattle.normal_forms.specs.Normal.{Names, parts_unary, parts_binary, finished, Stage, staged_step, staged}
+use Rattle.normal_forms.specs.Polynomials.{parts_unary, parts_binary}
+use Rattle.normal_forms.specs.Normal.{Names, finished, Stage, staged_step, staged}
 
 -- the answer of a call, of what is equal
 pub gives : {E : Type 0} (r : Result Term E) (x y : Term) → x ≡ y → IfOk r (λ after. after ≡ x) → IfOk r (λ after. after ≡ y)

@@ -1,18 +1,16 @@
 -- Terms in normal form: every part of the sort of numbers is one sum of multiples of products (the laws of commutative
--- rings), and every location a root and one sum. What the laws don't look into keeps its form, with its parts in normal
--- form (this project's own).
-use Rattle.std.specs.Prelude.{ℕ, Bool, true, false, List, map, Option, Some}
+-- rings), and every location a root and one sum. Another node of literals is the literal of its value, and what is left
+-- keeps its form, with its parts in normal form (this project's own).
+use Rattle.std.specs.Prelude.{ℕ, Bool, true, false, List, map, Option, Some, None}
 use Rattle.rc_terms.specs.declared.sort.Sort.{Sort}
 use Rattle.rc_terms.specs.declared.sort.Sort.TheVariants as sorts
 use Rattle.rc_terms.specs.declared.term.Term.{Term}
 use Rattle.rc_terms.specs.declared.term.Term.TheOpen.{Term-F}
 use Rattle.rc_terms.specs.declared.term.Term.TheFolds.{para-Term}
 use Rattle.rc_terms.specs.declared.term.Term.TheVariants as terms
-use Rattle.rc_terms.specs.declared.operator.UnaryOperator.{UnaryOperator}
-use Rattle.rc_terms.specs.declared.operator.UnaryOperator.TheVariants.{Negative}
-use Rattle.rc_terms.specs.declared.operator.BinaryOperator.{BinaryOperator}
-use Rattle.rc_terms.specs.declared.operator.BinaryOperator.TheVariants.{Add, Subtract, Multiply}
 use Rattle.rc_terms.specs.Sorting.{sort_under}
+use Rattle.normal_forms.specs.Folding.{folded}
+use Rattle.normal_forms.specs.Polynomials.{parts_unary, parts_binary}
 use Rattle.normal_forms.specs.Sums.{normal_sum}
 use Rattle.normal_forms.specs.Locations.{normal_location}
 
@@ -20,27 +18,21 @@ use Rattle.normal_forms.specs.Locations.{normal_location}
 abbrev pub Names : Type 0
 Names = List (List ℕ × Sort)
 
--- whether the operands of an operator are whole parts, and no summands or factors of the sum that it stands in
-abbrev pub parts_unary : UnaryOperator → Bool
-parts_unary Negative = false
-parts_unary operator = true
-
-abbrev pub parts_binary : BinaryOperator → Bool
-parts_binary Add = false
-parts_binary Subtract = false
-parts_binary Multiply = false
-parts_binary operator = true
-
 -- a term whose parts are in normal form, itself in normal form where its sort is that of numbers or of locations
 abbrev pub written_by_sort : Option Sort → Term → Term
 written_by_sort (Some sorts.Int) term = normal_sum term
 written_by_sort (Some sorts.Loc) term = normal_location term
 written_by_sort sort term = term
 
--- the same, where the term is a whole part; within a sum it stays as it is
+-- a term whose parts are in normal form, with its literals folded where it is well sorted
+abbrev pub folded_by_sort : Option Sort → Term → Term
+folded_by_sort None term = term
+folded_by_sort (Some sort) term = folded term
+
+-- both, where the term is a whole part; within a sum it isn't written as one of its own
 abbrev pub finished : Option Sort → Term → Bool → Term
-finished sort term true = written_by_sort sort term
-finished sort term false = term
+finished sort term true = written_by_sort sort (folded_by_sort sort term)
+finished sort term false = folded_by_sort sort term
 
 -- a part, and its normal form as a whole part (true) or within a sum (false)
 abbrev pub Stage : Type 0

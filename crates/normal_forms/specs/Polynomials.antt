@@ -1,6 +1,6 @@
 -- Terms as polynomials: sums of products, multiplied out (the laws of commutative rings; what is opaque to them is this
 -- project's own).
-use Rattle.std.specs.Prelude.{List, [], ◌∷◌, ◌++◌, map, ℤ, pos, negsuc, ◌+ℤ◌, ◌*ℤ◌}
+use Rattle.std.specs.Prelude.{Bool, true, false, List, [], ◌∷◌, ◌++◌, map, ℤ, pos, negsuc, ◌+ℤ◌, ◌*ℤ◌}
 use Rattle.rc_terms.specs.declared.term.Term.{Term}
 use Rattle.rc_terms.specs.declared.term.Term.TheOpen.{Term-F}
 use Rattle.rc_terms.specs.declared.term.Term.TheFolds.{para-Term}
@@ -33,6 +33,17 @@ multiplied a b = record { factor = a.factor *ℤ b.factor; product = a.product +
 abbrev pub products : List Summand → List Summand → List Summand
 products [] others = []
 products (summand ∷ more) others = map (multiplied summand) others ++ products more others
+
+-- whether the operands of an operator are whole parts, and no summands or factors of the sum that it stands in
+abbrev pub parts_unary : UnaryOperator → Bool
+parts_unary Negative = false
+parts_unary operator = true
+
+abbrev pub parts_binary : BinaryOperator → Bool
+parts_binary Add = false
+parts_binary Subtract = false
+parts_binary Multiply = false
+parts_binary operator = true
 
 -- a part, with its summands
 abbrev pub Expansion : Type 0

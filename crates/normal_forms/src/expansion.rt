@@ -4,12 +4,13 @@ ghost use Rattle.normal_forms.specs.Polynomials.{expanded, opaque, constant, pro
 ghost use Rattle.normal_forms.specs.Polynomials.{multiplied as product_of_both};
 ghost use Rattle.normal_forms.specs.Scanning.{signed_sum};
 
-use crate::failure::Failure;
 use crate::summand::Summand;
 use rc_terms::{BinaryOperator, Term, UnaryOperator};
+use rc_text::NoMemory;
 use shared_values::Shared;
 use sqlite_items::Items;
-use std::alloc::{AllocError, Global};
+use std::alloc::Global;
+use whole_numbers::Whole;
 
 /// Writes the term's summands behind what is there, each with the opposite sign where `negative`.
 pub fn expand(
@@ -17,7 +18,7 @@ pub fn expand(
     summands: &mut Items<Summand>,
     term: &Term,
     negative: bool,
-) -> Result<(), Failure>
+) -> Result<(), NoMemory>
     ensures { OnOk result (summands.new ≡ summands.old ++ signed_sum negative (expanded term.now)) }
 {
     match term {
@@ -58,10 +59,10 @@ fn push_constant(
     summands: &mut Items<Summand>,
     number: i128,
     negative: bool,
-) -> Result<(), Failure>
+) -> Result<(), NoMemory>
     ensures { OnOk result (summands.new ≡ summands.old ++ signed_sum negative (constant number ∷ [])) }
 {
-    let factor = signed(number, negative)?;
+    let factor = signed(alloc, number, negative)?;
     summands.push(Summand {
         factor,
         product: Items::new(alloc),
@@ -74,10 +75,10 @@ fn push_opaque(
     summands: &mut Items<Summand>,
     term: &Term,
     negative: bool,
-) -> Result<(), Failure>
+) -> Result<(), NoMemory>
     ensures { OnOk result (summands.new ≡ summands.old ++ signed_sum negative (opaque term.now ∷ [])) }
 {
-    let factor = signed(1, negative)?;
+    let factor = signed(alloc, 1, negative)?;
     let mut product = Items::new(alloc);
     product.push(Shared::new(alloc, term.copy(alloc)?)?)?;
     summands.push(Summand { factor, product })?;
@@ -85,22 +86,13 @@ fn push_opaque(
 }
 
 /// The number, or its opposite.
-fn signed(number: i128, negative: bool) -> Result<i128, Failure>
+fn signed(alloc: Global, number: i128, negative: bool) -> Result<Whole, NoMemory>
     ensures { IfOk result (λ signed. signed ≡ cond negative (negsuc 0 *ℤ number) number) }
 {
     if negative {
-        times_number(-1, number)
+        Whole::new(-1).times(alloc, &Whole::new(number))
     } else {
-        Ok(number)
-    }
-}
-
-fn times_number(number: i128, other: i128) -> Result<i128, Failure>
-    ensures { IfOk result (λ product. product ≡ number *ℤ other) }
-{
-    match number.checked_mul(other) {
-        Some(product) => Ok(product),
-        None => Err(Failure::Width),
+        Ok(Whole::new(number))
     }
 }
 
@@ -110,7 +102,7 @@ fn push_products(
     summands: &mut Items<Summand>,
     first: &[Summand],
     second: &[Summand],
-) -> Result<(), Failure>
+) -> Result<(), NoMemory>
     ensures { OnOk result (summands.new ≡ summands.old ++ products first.now second.now) }
 {
     for summand in first {
@@ -125,7 +117,7 @@ fn push_multiples(
     summands: &mut Items<Summand>,
     summand: &Summand,
     others: &[Summand],
-) -> Result<(), Failure>
+) -> Result<(), NoMemory>
     ensures { OnOk result (summands.new ≡ summands.old ++ map (product_of_both summand.now) others.now) }
 {
     for other in others {
@@ -135,20 +127,17 @@ fn push_multiples(
     Ok(())
 }
 
-fn multiplied(alloc: Global, summand: &Summand, other: &Summand) -> Result<Summand, Failure>
+fn multiplied(alloc: Global, summand: &Summand, other: &Summand) -> Result<Summand, NoMemory>
     ensures { IfOk result (λ product. product ≡ product_of_both summand.now other.now) }
 {
-    let factor = times_number(summand.factor, other.factor)?;
+    let factor = summand.factor.times(alloc, &other.factor)?;
     let mut product = Items::new(alloc);
     push_factors(&mut product, summand.product.as_slice())?;
     push_factors(&mut product, other.product.as_slice())?;
     Ok(Summand { factor, product })
 }
 
-fn push_factors(
-    product: &mut Items<Shared<Term>>,
-    factors: &[Shared<Term>],
-) -> Result<(), AllocError>
+fn push_factors(product: &mut Items<Shared<Term>>, factors: &[Shared<Term>]) -> Result<(), NoMemory>
     ensures { OnOk result (product.new ≡ product.old ++ factors.now) }
 {
     for factor in factors {

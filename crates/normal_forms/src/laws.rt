@@ -65,6 +65,29 @@ pub fn normal_props_keep_truth()
         truth_of (value_of env (normal_prop (sorts_of env) term)) ≡ truth_of (value_of env term) }
 {}
 
+/// A proposition in normal form is one that is well sorted where the proposition is.
+pub fn normal_props_keep_sorts()
+    ensures { (names : Names) (term : Term) → sort_under names term ≡ Some sorts.Bool →
+        sort_under names (normal_prop names term) ≡ Some sorts.Bool }
+{}
+
+/// A proposition in normal form is its own normal form.
+pub fn normal_props_are_their_own()
+    ensures { (names : Names) (term : Term) → sort_under names term ≡ Some sorts.Bool →
+        normal_prop names (normal_prop names term) ≡ normal_prop names term }
+{}
+
+/// A number in normal form is its own normal form.
+pub fn normal_sums_are_their_own()
+    ensures { (term : Term) → normal_sum (normal_sum term) ≡ normal_sum term }
+{}
+
+/// A term in normal form is its own normal form.
+pub fn normal_terms_are_their_own()
+    ensures { (names : Names) (term : Term) →
+        normal_term names (normal_term names term) ≡ normal_term names term }
+{}
+
 /// A location that is moved by one number and then by another is moved by their sum.
 pub fn offsets_add_up()
     ensures { (location : Loc) (a b : ℤ) → offset_by (offset_by location a) b ≡ offset_by location (a +ℤ b) }

@@ -1,11 +1,10 @@
 //! Negations pushed inwards.
 ghost use Rattle.std.specs.Prelude.{◌≡◌, IfOk};
-ghost use Rattle.rc_terms.specs.declared.term.Term.TheVariants as terms;
 ghost use Rattle.normal_forms.specs.Negation.{pushed as pushed_term, signed as signed_term, turned as turned_operator};
 ghost use Rattle.normal_forms.specs.Negation.{role_of as operator_role};
 
+use crate::node::{binary, conditional, unary};
 use rc_terms::{BinaryOperator, Term, UnaryOperator};
-use shared_values::Shared;
 use std::alloc::{AllocError, Global};
 
 /// The term with its negations pushed inwards to the comparisons, or, where `negative`, its negation's.
@@ -75,14 +74,6 @@ pub fn role_of(operator: BinaryOperator) -> Role
     }
 }
 
-fn conditional(alloc: Global, test: Term, then: Term, otherwise: Term) -> Result<Term, AllocError>
-    ensures { IfOk result (λ node. node ≡ terms.Conditional test then otherwise) }
-{
-    let test = Shared::new(alloc, test)?;
-    let then = Shared::new(alloc, then)?;
-    Ok(Term::Conditional(test, then, Shared::new(alloc, otherwise)?))
-}
-
 /// The operator that a negation makes of a comparison or a connective.
 fn turned(operator: BinaryOperator, negative: bool) -> BinaryOperator
     ensures { result ≡ turned_operator negative operator }
@@ -104,27 +95,12 @@ fn turned(operator: BinaryOperator, negative: bool) -> BinaryOperator
     }
 }
 
-fn binary(
-    alloc: Global,
-    operator: BinaryOperator,
-    left: Term,
-    right: Term,
-) -> Result<Term, AllocError>
-    ensures { IfOk result (λ node. node ≡ terms.Binary operator left right) }
-{
-    Ok(Term::Binary(
-        operator,
-        Shared::new(alloc, left)?,
-        Shared::new(alloc, right)?,
-    ))
-}
-
 /// The term, or its negation.
 fn signed(alloc: Global, term: Term, negative: bool) -> Result<Term, AllocError>
     ensures { IfOk result (λ after. after ≡ signed_term negative term) }
 {
     if negative {
-        Ok(Term::Unary(UnaryOperator::Not, Shared::new(alloc, term)?))
+        unary(alloc, UnaryOperator::Not, term)
     } else {
         Ok(term)
     }

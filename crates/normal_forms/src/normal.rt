@@ -1,28 +1,36 @@
-ghost use Rattle.std.specs.Prelude.{◌≡◌, ◌<◌, ◌≤◌, Err, IfOk, OnOk};
+ghost use Rattle.std.specs.Prelude.{◌≡◌, ◌<◌, ◌≤◌, true, false, Err, IfOk, OnOk};
 ghost use Rattle.rc_terms.specs.declared.refusal.TermRefusal.TheVariants as refusals;
-ghost use Rattle.rc_terms.specs.declared.term.Term.TheVariants as terms;
 ghost use Rattle.rc_terms.specs.Nodes.{nodes, most_nodes};
 ghost use Rattle.rc_terms.specs.Sorting.{sort_under};
 ghost use Rattle.normal_forms.specs.Normal.{finished, staged as staged_term, normal_term as normal_of};
-ghost use Rattle.normal_forms.specs.Normal.{parts_unary as unary_parts, parts_binary as binary_parts};
+ghost use Rattle.normal_forms.specs.Normal.{folded_by_sort, written_by_sort};
+ghost use Rattle.normal_forms.specs.Polynomials.{parts_unary as unary_parts, parts_binary as binary_parts};
+ghost use Rattle.normal_forms.specs.Widths.{Forms, staging_passes, finishing_passes, sorted_folding_passes};
+ghost use Rattle.normal_forms.specs.Widths.{writing_passes};
 
 use crate::failure::Failure;
+use crate::folding::{folded, is_plain};
 use crate::location::written_location;
+use crate::node::{binary, conditional, unary, update};
 use crate::sum::written;
 use rc_terms::{
     BinaryOperator, Sort, Sorts, Term, TermRefusal, UnaryOperator, is_within_limit, sort_of,
 };
 use shared_values::Shared;
 use sqlite_items::Items;
-use std::alloc::{AllocError, Global};
+use std::alloc::Global;
 
 /// The term in normal form, under the sorts of its names: each part of the sort of numbers is one sum of multiples of
-/// products, with like products added up and in order, and each location is a root plus one such sum. `Width` comes
-/// where a number on the way leaves 128 bits.
+/// products, with like products added up and in order, and each location is a root plus one such sum; another node
+/// whose operands are literals is its value. `Width` comes where the normal form of the term or of one of its parts has
+/// a number beyond 128 bits.
 pub fn normal_term(alloc: Global, term: &Term, sorts: &Sorts) -> Result<Term, TermRefusal>
     ensures value { IfOk result (λ normal. normal ≡ normal_of sorts.now term.now) }
     ensures within { OnOk result (nodes (normal_of sorts.now term.now) ≤ most_nodes) }
     ensures limit { result ≡ Err refusals.TermLimit → most_nodes < nodes (normal_of sorts.now term.now) }
+    ensures width { result ≡ Err refusals.Width → staging_passes sorts.now term.now true ≡ true }
+    ensures narrow { OnOk result (staging_passes sorts.now term.now true ≡ false) }
+    ensures narrow_limit { result ≡ Err refusals.TermLimit → staging_passes sorts.now term.now true ≡ false }
 {
     let normal = match staged(alloc, term, sorts, true) {
         Ok(normal) => normal,
@@ -38,7 +46,7 @@ pub fn normal_term(alloc: Global, term: &Term, sorts: &Sorts) -> Result<Term, Te
 
 /// The term with its parts in normal form, and itself as well where it is `whole` and no part of a sum.
 pub fn staged(alloc: Global, term: &Term, sorts: &Sorts, whole: bool) -> Result<Term, Failure>
-    ensures { IfOk result (λ after. after ≡ staged_term sorts.now term.now whole) }
+    ensures { Forms result (staged_term sorts.now term.now whole) (staging_passes sorts.now term.now whole) }
 {
     match term {
         Term::List(elements) => {
@@ -89,19 +97,43 @@ fn finish(
     inner: Term,
     whole: bool,
 ) -> Result<Term, Failure>
-    ensures { IfOk result (λ after. after ≡ finished (sort_under sorts.now term.now) inner whole) }
+    ensures { Forms result (finished (sort_under sorts.now term.now) inner whole)
+        (finishing_passes (sort_under sorts.now term.now) inner whole) }
 {
-    if !whole {
+    if !whole && is_plain(&inner) {
         return Ok(inner);
     }
-    match sort_of(term, sorts) {
+    let sort = sort_of(term, sorts);
+    let folded = fold(alloc, sort, inner)?;
+    if whole {
+        write(alloc, sort, folded)
+    } else {
+        Ok(folded)
+    }
+}
+
+/// A term whose parts are in normal form, with its literals folded where it is well sorted.
+fn fold(alloc: Global, sort: Option<Sort>, inner: Term) -> Result<Term, Failure>
+    ensures { Forms result (folded_by_sort sort inner) (sorted_folding_passes sort inner) }
+{
+    match sort {
+        Some(_) => folded(alloc, inner),
+        None => Ok(inner),
+    }
+}
+
+/// A number as one sum, a location as its root and one sum, and other terms as they are.
+fn write(alloc: Global, sort: Option<Sort>, inner: Term) -> Result<Term, Failure>
+    ensures { Forms result (written_by_sort sort inner) (writing_passes sort inner) }
+{
+    match sort {
         Some(Sort::Int) => written(alloc, &inner),
         Some(Sort::Loc) => written_location(alloc, &inner),
         _ => Ok(inner),
     }
 }
 
-fn parts_unary(operator: UnaryOperator) -> bool
+pub fn parts_unary(operator: UnaryOperator) -> bool
     ensures { result ≡ unary_parts operator }
 {
     match operator {
@@ -110,7 +142,7 @@ fn parts_unary(operator: UnaryOperator) -> bool
     }
 }
 
-fn parts_binary(operator: BinaryOperator) -> bool
+pub fn parts_binary(operator: BinaryOperator) -> bool
     ensures { result ≡ binary_parts operator }
 {
     match operator {
@@ -119,41 +151,4 @@ fn parts_binary(operator: BinaryOperator) -> bool
         BinaryOperator::Multiply => false,
         _ => true,
     }
-}
-
-fn unary(alloc: Global, operator: UnaryOperator, operand: Term) -> Result<Term, AllocError>
-    ensures { IfOk result (λ node. node ≡ terms.Unary operator operand) }
-{
-    Ok(Term::Unary(operator, Shared::new(alloc, operand)?))
-}
-
-fn binary(
-    alloc: Global,
-    operator: BinaryOperator,
-    left: Term,
-    right: Term,
-) -> Result<Term, AllocError>
-    ensures { IfOk result (λ node. node ≡ terms.Binary operator left right) }
-{
-    Ok(Term::Binary(
-        operator,
-        Shared::new(alloc, left)?,
-        Shared::new(alloc, right)?,
-    ))
-}
-
-fn conditional(alloc: Global, test: Term, then: Term, otherwise: Term) -> Result<Term, AllocError>
-    ensures { IfOk result (λ node. node ≡ terms.Conditional test then otherwise) }
-{
-    let test = Shared::new(alloc, test)?;
-    let then = Shared::new(alloc, then)?;
-    Ok(Term::Conditional(test, then, Shared::new(alloc, otherwise)?))
-}
-
-fn update(alloc: Global, list: Term, index: Term, number: Term) -> Result<Term, AllocError>
-    ensures { IfOk result (λ node. node ≡ terms.Update list index number) }
-{
-    let list = Shared::new(alloc, list)?;
-    let index = Shared::new(alloc, index)?;
-    Ok(Term::Update(list, index, Shared::new(alloc, number)?))
 }
