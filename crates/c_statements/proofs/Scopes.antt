@@ -11,7 +11,7 @@ use Rattle.c_grammar.specs.declared.names.NameEntry.{NameEntry}
 use Rattle.c_grammar.specs.Declarations.{under}
 use Rattle.c_grammar.specs.Marks.{is_mark, is_keyword}
 use Rattle.c_grammar.specs.Input.{Input, Taken, taken_if, first_of_tokens, mark}
-use Rattle.c_grammar.specs.Reading.{Reader, onward, turns}
+use Rattle.c_grammar.specs.Reading.{onward, turns}
 use Rattle.c_grammar.specs.Statements.{Position, keyword}
 use Rattle.c_grammar.specs.StatementReading.{kind_at, children_from, if_behind, switch_behind, while_behind, do_behind}
 use Rattle.c_grammar.specs.StatementReading.{for_behind, kind_with}

@@ -1,5 +1,3 @@
-use Rattle.std.proofs.Common.{rules, arith}
-use Rattle.std.proofs.lemmas.Grind.{common_steps}
 use Rattle.c_statements.specs.Parts.{position_seen}
 use Rattle.c_statements.proofs.Parts.{Ended, compound-read}
 use Rattle.c_statements.proofs.nesting.Statements.compound.Goals as goal
