@@ -1,5 +1,5 @@
 -- How deep the node of each production is, by the words of the code.
-use Rattle.std.proofs.Common.{◌≡◌, ℕ, ◌+◌, max, List, map, rules}
+use Rattle.std.proofs.Common.{◌≡◌, ℕ, ◌+◌, max, List, rules}
 use Rattle.rc_text.specs.declared.place.Place.{Place}
 use Rattle.c_lexer.specs.declared.token.IntegerConstant.{IntegerConstant}
 use Rattle.c_lexer.specs.declared.token.CharacterConstant.{CharacterConstant}

@@ -1,6 +1,6 @@
 -- What may nest in what is read, by how often.
 use Rattle.std.proofs.Common.{◌≡◌, ℕ, zero, suc, ◌-◌, ◌≢◌, refl, arith}
-use Rattle.c_grammar.specs.Reading.{Nested, nested, no_nested, expression_with, type_named}
+use Rattle.c_grammar.specs.Reading.{nested, no_nested, expression_with, type_named}
 
 pub nested-nothing : (room : ℕ) → room ≡ 0 → nested 200 room ≡ no_nested
 unfolding nested

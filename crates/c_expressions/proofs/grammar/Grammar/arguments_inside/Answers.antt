@@ -1,8 +1,7 @@
-use Rattle.std.proofs.Common.{suc, rules, arith}
+use Rattle.std.proofs.Common.{rules, arith}
 use Rattle.std.proofs.lemmas.Grind.{common_steps}
 use Rattle.c_grammar.specs.Reading.{nested, arguments_from}
-use Rattle.c_cursor.proofs.Turns.{one_more, no_more, behind, behind-behind, behind-nothing, behind-first}
-use Rattle.c_expressions.specs.Parts.{reader}
+use Rattle.c_cursor.proofs.Turns.{one_more, no_more, behind, behind-behind, behind-nothing}
 use Rattle.c_expressions.proofs.TypeDepths.{expressions-append}
 use Rattle.c_expressions.proofs.grammar.Grammar.arguments_inside.Goals as goal
 

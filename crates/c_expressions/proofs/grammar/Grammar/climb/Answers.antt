@@ -1,4 +1,4 @@
-use Rattle.std.proofs.Common.{suc, rules, arith}
+use Rattle.std.proofs.Common.{rules, arith}
 use Rattle.std.proofs.lemmas.Grind.{common_steps}
 use Rattle.c_grammar.specs.Reading.{nested, climb}
 use Rattle.c_cursor.proofs.Turns.{one_more, no_more}

@@ -1,7 +1,7 @@
-use Rattle.std.proofs.Common.{suc, rules, arith}
+use Rattle.std.proofs.Common.{rules, arith}
 use Rattle.std.proofs.lemmas.Grind.{common_steps}
 use Rattle.c_grammar.specs.Reading.{enumerators_from}
-use Rattle.c_cursor.proofs.Turns.{one_more, no_more, behind, behind-behind, behind-nothing, behind-first}
+use Rattle.c_cursor.proofs.Turns.{one_more, no_more, behind, behind-behind, behind-nothing}
 use Rattle.c_expressions.specs.Parts.{reader}
 use Rattle.c_expressions.proofs.TypeDepths.{enumerators-append}
 use Rattle.c_expressions.proofs.grammar.Grammar.enumerators.Goals as goal
