@@ -24,21 +24,40 @@ enum Form {
 /// The depth of what is read, or where it is refused.
 fn read(alloc: Global, cursor: &mut Cursor<'_>, form: Form) -> Result<usize, ParseRefusal> {
     match form {
-        Form::Local => Ok(local_declaration(alloc, cursor)?.depth),
-        Form::Type => Ok(defining(alloc, cursor)?.specifier.depth),
-        Form::Function => {
-            let begun = defining(alloc, cursor)?;
-            Ok(function_declared(alloc, cursor, &begun.specifier)?.depth)
-        }
-        Form::Functions => {
-            let begun = defining(alloc, cursor)?;
-            Ok(function_names(alloc, cursor, &begun.specifier)?.depth)
-        }
-        Form::Typedefs => {
-            let begun = defining(alloc, cursor)?;
-            Ok(typedef_names(alloc, cursor, &begun.specifier)?.depth)
-        }
+        Form::Local => local(alloc, cursor),
+        Form::Type => type_alone(alloc, cursor),
+        Form::Function => function(alloc, cursor),
+        Form::Functions => functions(alloc, cursor),
+        Form::Typedefs => typedefs(alloc, cursor),
     }
+}
+
+fn local(alloc: Global, cursor: &mut Cursor<'_>) -> Result<usize, ParseRefusal> {
+    let read = local_declaration(alloc, cursor)?;
+    Ok(read.depth)
+}
+
+fn type_alone(alloc: Global, cursor: &mut Cursor<'_>) -> Result<usize, ParseRefusal> {
+    let begun = defining(alloc, cursor)?;
+    Ok(begun.specifier.depth)
+}
+
+fn function(alloc: Global, cursor: &mut Cursor<'_>) -> Result<usize, ParseRefusal> {
+    let begun = defining(alloc, cursor)?;
+    let read = function_declared(alloc, cursor, &begun.specifier)?;
+    Ok(read.depth)
+}
+
+fn functions(alloc: Global, cursor: &mut Cursor<'_>) -> Result<usize, ParseRefusal> {
+    let begun = defining(alloc, cursor)?;
+    let read = function_names(alloc, cursor, &begun.specifier)?;
+    Ok(read.depth)
+}
+
+fn typedefs(alloc: Global, cursor: &mut Cursor<'_>) -> Result<usize, ParseRefusal> {
+    let begun = defining(alloc, cursor)?;
+    let read = typedef_names(alloc, cursor, &begun.specifier)?;
+    Ok(read.depth)
 }
 
 /// What becomes of a text, where `T` is the name of a typedef: its depth, how many tokens are left, and how many names
