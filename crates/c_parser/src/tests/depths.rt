@@ -32,7 +32,7 @@ const EXPRESSION: (&[u8], &[u8]) = (b"int f(void) {", b";}");
 #[test]
 fn trees_are_two_hundred_nodes_deep_at_most(rt: HostRuntime) -> Result<(), Fail> {
     let alloc = rt.alloc();
-    let rows: &[((&[u8], &[u8]), (&[u8], &[u8]), &[u8], usize)] = &[
+    let rows: &[((&[u8], &[u8]), (&[u8], &[u8]), &[u8], u8)] = &[
         (FUNCTION, (b"{", b"}"), b"", 199),
         (FUNCTION, (b"if (a) ", b""), b";", 198),
         (FUNCTION, (b"while (a) ", b""), b";", 198),
@@ -50,10 +50,11 @@ fn trees_are_two_hundred_nodes_deep_at_most(rt: HostRuntime) -> Result<(), Fail>
         ((b"", b""), (b"struct s {", b"};"), b"int a;", 199),
     ];
     for (ends, pieces, middle, most) in rows {
-        let text = nested(alloc, *ends, *pieces, *most, middle)?;
+        let most = usize::from(*most);
+        let text = nested(alloc, *ends, *pieces, most, middle)?;
         let found = outcome(&rt, alloc, text.as_slice())?;
         assert!(rt; !found.ends_with("too deep"), "at the limit");
-        let text = nested(alloc, *ends, *pieces, *most + 1, middle)?;
+        let text = nested(alloc, *ends, *pieces, most + 1, middle)?;
         let found = outcome(&rt, alloc, text.as_slice())?;
         assert!(rt; found.as_str() == "too deep", "past the limit: {found}");
     }

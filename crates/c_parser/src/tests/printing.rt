@@ -214,6 +214,7 @@ fn integer(named: IntegerType) -> &'static [u8] {
 }
 
 /// Prints so many levels of a statement.
+#[cycle(printing)]
 fn show_stmt(text: &mut Bytes, statement: &Stmt, levels: u8) -> Result<(), NoMemory> {
     if levels == 0 {
         return text.append(b"..");
@@ -232,6 +233,7 @@ fn show_stmt(text: &mut Bytes, statement: &Stmt, levels: u8) -> Result<(), NoMem
     show_kind(text, &statement.kind, levels - 1)
 }
 
+#[cycle(printing)]
 fn show_kind(text: &mut Bytes, kind: &StmtKind, levels: u8) -> Result<(), NoMemory> {
     match kind {
         StmtKind::Compound(statements) => {
