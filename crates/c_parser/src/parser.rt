@@ -27,7 +27,7 @@ fn unit(alloc: Global, tokens: &Tokens) -> Result<Unit, ParseRefusal>
     })
 }
 
-/// Too deep a file has many tokens: each node takes one at least, but for a type's and a statement's first.
+/// Hands `Depth` on for a file of many tokens alone: that no other is so deep isn't proved, so they are counted.
 fn deep_only_of_many(tokens: &Tokens, refusal: ParseRefusal) -> ParseRefusal
     ensures many { result ≡ refusals.Depth → 100 < length tokens.now.tokens }
     ensures memory { (result ≡ refusals.NoMemory) ↔ (refusal ≡ refusals.NoMemory) }
