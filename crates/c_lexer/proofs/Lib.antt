@@ -18,6 +18,7 @@ pub mod DirectiveLaws
 pub mod DirectiveScans
 pub mod Files
 pub mod Elements
+pub mod Alone
 pub mod FirstOfLine
 pub mod Readings
 pub mod KindTables

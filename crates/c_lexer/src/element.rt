@@ -1,6 +1,6 @@
 ghost use Rattle.std.specs.Prelude.{◌<◌, ◌≡◌, ◌==◌, ◌&&◌, ℕ, List, length, slice_index};
 ghost use Rattle.c_lexer.specs.Scanning.Elements.{IsFound, IsHashFound, kind_in};
-ghost use Rattle.c_lexer.specs.Scanning.Reading.{is_fresh_after};
+ghost use Rattle.c_lexer.specs.Scanning.Reading.{is_fresh_after, token_count};
 
 use crate::byte::{byte_at, is_blank};
 use crate::comment::comment_length;
@@ -64,6 +64,16 @@ pub(crate) fn is_fresh_after(kind: FoundKind, text: &[u8], fresh: bool) -> bool
     match kind {
         FoundKind::Blank | FoundKind::Comment => has_line_feed(text) || fresh,
         FoundKind::DirectiveLine(_) | FoundKind::SingleToken(_) => false,
+    }
+}
+
+/// How many tokens an element is.
+pub(crate) fn token_count(kind: FoundKind) -> usize
+    ensures { (bytes : List ℕ) → result ≡ token_count (kind_in bytes kind) }
+{
+    match kind {
+        FoundKind::SingleToken(_) => 1,
+        FoundKind::Blank | FoundKind::Comment | FoundKind::DirectiveLine(_) => 0,
     }
 }
 

@@ -37,6 +37,9 @@ impl Includes {
     pub(crate) fn reach(&mut self, place: Place) -> Result<(), NoMemory>
         ensures { IfOk result (λ _. (next : Place) → includes_at self.new next ≡ includes_at self.old place) }
     {
+        if self.pending.is_empty() {
+            return Ok(());
+        }
         place_headers(&mut self.placed, self.pending.as_slice(), place)?;
         self.pending.clear();
         Ok(())

@@ -5,6 +5,7 @@ ghost use Rattle.c_lexer.specs.Files.{AreTokensOf, IsFaultOf, token_limit};
 ghost use Rattle.c_lexer.specs.Scanning.Reading.{Answers};
 
 use crate::fault::LexRefusal;
+use crate::passing::has_too_many;
 use crate::reader::Reader;
 use crate::tokens::Tokens;
 use rc_text::Bytes;
@@ -35,6 +36,10 @@ fn read_all(alloc: Global, bytes: &[u8]) -> Result<Tokens, LexRefusal>
     requires { length bytes.now ≤ 2 ^ 31 }
     ensures { Answers bytes.now result }
 {
+    // No token is kept of a file that is known to have too many.
+    if has_too_many(bytes) {
+        return Err(LexRefusal::TokenLimit);
+    }
     let mut reader = Reader::new(alloc);
     while (reader.place.byte as usize) < bytes.len() {
         reader.read(alloc, bytes)?;

@@ -22,6 +22,7 @@ mod laws;
 mod lexer;
 mod names;
 mod number;
+mod passing;
 mod place;
 mod punctuator;
 mod reader;

@@ -5,7 +5,7 @@ ghost use Rattle.c_lexer.specs.Elements.{has_line_feed};
 use rc_text::Place;
 
 /// The place after one more byte.
-fn after_byte(place: Place, byte: u8) -> Place
+pub(crate) fn after_byte(place: Place, byte: u8) -> Place
     requires room { place.byte < 2 ^ 31 }
     requires line { place.line ≤ place.byte + 1 }
     requires column { place.column ≤ place.byte + 1 }

@@ -1,4 +1,4 @@
-ghost use Rattle.std.specs.Prelude.{◌≡◌};
+ghost use Rattle.std.specs.Prelude.{◌≡◌, [], ◌∷◌, IfSome};
 ghost use Rattle.c_lexer.specs.Scanning.Punctuators.{IsAtFront, punctuators_from};
 ghost use Rattle.c_lexer.specs.Punctuator.{punctuator_text};
 
@@ -170,6 +170,26 @@ impl Punctuator {
             b';' => &[Punctuator::Semicolon],
             b',' => &[Punctuator::Comma],
             _ => &[],
+        }
+    }
+
+    /// The punctuator that a byte is, if no other one begins with it. Of these ten no further byte is asked.
+    pub(crate) fn alone(byte: u8) -> Option<Self>
+        ensures spelled { IfSome result (λ punctuator. punctuator_text punctuator ≡ byte ∷ []) }
+        ensures only { IfSome result (λ punctuator. punctuators_from byte ≡ punctuator ∷ []) }
+    {
+        match byte {
+            b'[' => Some(Punctuator::OpenBracket),
+            b']' => Some(Punctuator::CloseBracket),
+            b'(' => Some(Punctuator::OpenParenthesis),
+            b')' => Some(Punctuator::CloseParenthesis),
+            b'{' => Some(Punctuator::OpenBrace),
+            b'}' => Some(Punctuator::CloseBrace),
+            b'~' => Some(Punctuator::Tilde),
+            b'?' => Some(Punctuator::Question),
+            b';' => Some(Punctuator::Semicolon),
+            b',' => Some(Punctuator::Comma),
+            _ => None,
         }
     }
 

@@ -3,7 +3,8 @@ ghost use Rattle.std.specs.Prelude.{slice_range, Option, IfOk, IfErr};
 ghost use Rattle.rc_text.specs.declared.place.Place.{Place};
 ghost use Rattle.c_lexer.specs.declared.token.TokenKind.{TokenKind};
 ghost use Rattle.c_lexer.specs.Directives.{directive_macro, directive_declaration, HasName};
-ghost use Rattle.c_lexer.specs.Elements.{Element, first_of, replaced, kept_text, include_by};
+ghost use Rattle.c_lexer.specs.declared.token.TokenKind.TheVariants as kinds;
+ghost use Rattle.c_lexer.specs.Elements.{Element, SingleToken, first_of, replaced, kept_text, include_by};
 ghost use Rattle.c_lexer.specs.Files.{Opens, token_limit};
 ghost use Rattle.c_lexer.specs.Scanning.Directives.{AreWithin, directive_in};
 ghost use Rattle.c_lexer.specs.Scanning.Elements.{StandWithin, kind_in, CanOpen};
@@ -16,7 +17,8 @@ use crate::element::{Found, FoundKind, element};
 use crate::fault::{LexFault, LexFaultKind, LexRefusal};
 use crate::includes::Includes;
 use crate::names::Names;
-use crate::place::{after_text, has_line_feed};
+use crate::place::{after_byte, after_text, has_line_feed};
+use crate::punctuator::Punctuator;
 use crate::scanner::Unread;
 use crate::token::{Token, TokenKind};
 use crate::tokens::Tokens;
@@ -55,6 +57,42 @@ impl Reader {
 
     /// Reads the element that stands at the reader's place.
     pub(crate) fn read(&mut self, alloc: Global, bytes: &[u8]) -> Result<(), LexRefusal>
+        requires fits { length bytes.now ≤ 2 ^ 31 }
+        requires stands { Stands bytes.now self.old }
+        requires some { self.old.place.byte < length bytes.now }
+        ensures stands { IfOk result (λ _. Stands bytes.now self.new × (self.old.place.byte < self.new.place.byte)) }
+        ensures refuses { IfErr result (Refuses bytes.now) }
+    {
+        let first = bytes[self.place.byte as usize];
+        match Punctuator::alone(first) {
+            Some(punctuator) => {
+                self.add_alone(alloc, first, punctuator)?;
+                Ok(())
+            }
+            None => self.read_element(alloc, bytes),
+        }
+    }
+
+    /// Adds the punctuator that the byte at the reader's place is.
+    fn add_alone(&mut self, alloc: Global, byte: u8, punctuator: Punctuator) -> Result<(), NoMemory>
+        requires room { self.old.place.byte < 2 ^ 31 }
+        requires line { self.old.place.line ≤ self.old.place.byte + 1 }
+        requires column { self.old.place.column ≤ self.old.place.byte + 1 }
+        ensures { (elements : List Element) → HasRead elements self.old
+            → IfOk result (λ _. HasRead (record {
+              kind = SingleToken (kinds.Punctuator punctuator);
+              text = byte ∷ [];
+            } ∷ elements) self.new) }
+    {
+        let after = after_byte(self.place, byte);
+        self.add_token(alloc, &[byte], TokenKind::Punctuator(punctuator))?;
+        self.fresh = false;
+        self.place = after;
+        Ok(())
+    }
+
+    /// Reads the element that stands at the reader's place, whatever it is.
+    fn read_element(&mut self, alloc: Global, bytes: &[u8]) -> Result<(), LexRefusal>
         requires fits { length bytes.now ≤ 2 ^ 31 }
         requires stands { Stands bytes.now self.old }
         requires some { self.old.place.byte < length bytes.now }

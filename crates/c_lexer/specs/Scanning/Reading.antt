@@ -28,6 +28,22 @@ abbrev pub is_fresh : List Element → Bool
 is_fresh [] = true
 is_fresh (element ∷ earlier) = is_fresh_after element.kind element.text (is_fresh earlier)
 
+-- how many tokens an element is
+abbrev pub token_count : ElementKind → ℕ
+token_count Blank = 0
+token_count Comment = 0
+token_count (DirectiveLine directive) = 0
+token_count (SingleToken kind) = 1
+
+-- elements with so many tokens stand before a place in the bytes
+pub record HasPassed (bytes : List ℕ) (at : ℕ) (fresh : Bool) (tokens : ℕ) : Type 0 where
+  pub elements : List Element
+  pub are : AreElements bytes elements (drop at bytes)
+  pub inside : at ≤ length bytes
+  pub fresh_is : fresh ≡ is_fresh elements
+  pub tokens_are : tokens ≡ length (tokens_of elements)
+  pub few : tokens ≤ at
+
 -- the includes so far, where the next token behind them, or the end, has this place
 abbrev pub includes_at : Includes → Place → List Include
 includes_at includes next =

@@ -1,25 +1,23 @@
-use Rattle.std.proofs.Common.{take, drop, length, ◌-◌}
-use Rattle.std.proofs.lemmas.List.{take_rest}
-use Rattle.c_lexer.specs.Scanning.Elements.{kind_in}
-use Rattle.c_lexer.proofs.Elements.{can_open}
-use Rattle.c_lexer.proofs.Readings.{further, fault_read}
+use Rattle.std.proofs.Common.{◌≡◌, ◌+◌, ◌-◌, ◌∷◌, get_or, take, drop, length, refl, sym, ap, ◌∙◌, subst, arith}
+use Rattle.std.proofs.lemmas.List.{get_or-drop, length-drop}
+use Rattle.c_lexer.specs.declared.token.TokenKind.TheVariants as kinds
+use Rattle.c_lexer.specs.Elements.{SingleToken}
+use Rattle.c_lexer.specs.Scanning.Reading.{HasRead}
+use Rattle.c_lexer.proofs.Alone.{alone_begins}
+use Rattle.c_lexer.proofs.Readings.{further}
 use Rattle.c_lexer.proofs.reader.Reader.read.Goals as goal
 
-pub fault_kind-requires : goal.fault_kind-requires
-fault_kind-requires c = can_open c.args.self.now.fresh _ c.in-Err.unread c.in-Err.ensures.0 c.in-Err.ensures.1
-
-pub returns-in_ok-add-in-Ok-clause-stands : goal.returns-in_ok-add-in-Ok-clause-stands
-returns-in_ok-add-in-Ok-clause-stands c =
+pub returns-in_ok-add_alone-in-Some-clause-stands : goal.returns-in_ok-add_alone-in-Some-clause-stands
+returns-in_ok-add_alone-in-Some-clause-stands c =
     let bytes = c.args.bytes.now in
-    let at = c.args.self.now.place.byte in
-    let rest = take (length bytes - at) (drop at bytes) in
+    let old = c.args.self.now in
+    let new = c.add_alone.new.self in
+    let at = old.place.byte in
     let stands = c.requires.stands in
-    let found = c.in-Ok.ensures in
-    let read = c.in_ok-add-in-Ok.ensures stands.elements stands.read in
-    let next = further bytes rest c.args.self.now c.add.new.self (kind_in rest c.in-Ok.found.kind) c.in-Ok.found.length stands (take_rest bytes at) found.0 found.1 found.3 read in
+    let punctuator = c.in-Some.punctuator in
+    let size : length (drop at bytes) ≡ length bytes - at = length-drop at bytes in
+    let first : get_or bytes at 0 ≡ get_or (drop at bytes) 0 0 = sym (get_or-drop at bytes 0 0 ∙ ap (λ n. get_or bytes n 0) (omega arith)) in
+    let begins = alone_begins old.fresh (drop at bytes) (get_or bytes at 0) punctuator (omega (arith, size, c.requires.some)) first c.in-Some.ensures.spelled c.in-Some.ensures.only in
+    let read = subst (λ text. HasRead (record { kind = SingleToken (kinds.Punctuator punctuator); text = text } ∷ stands.elements) new) (sym begins.0) (c.in_ok-add_alone-in-Some.ensures stands.elements stands.read) in
+    let next = further bytes (drop at bytes) old new (SingleToken (kinds.Punctuator punctuator)) 1 stands refl (omega arith) (omega (arith, size, c.requires.some)) begins.1 read in
     (next.stands, next.moved)
-
-pub returns-in_ok-kind-in-Err-clause-refuses : goal.returns-in_ok-kind-in-Err-clause-refuses
-returns-in_ok-kind-in-Err-clause-refuses c =
-    let bytes = c.args.bytes.now in
-    fault_read bytes _ c.args.self.now c.in_ok-kind-in-Err.kind c.requires.stands (take_rest bytes c.args.self.now.place.byte) c.in-Err.ensures.0 c.in_ok-kind-in-Err.ensures

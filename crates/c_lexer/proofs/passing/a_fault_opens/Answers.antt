@@ -2,7 +2,7 @@ use Rattle.std.proofs.Common.{ap, subst}
 use Rattle.std.proofs.lemmas.List.{take_rest}
 use Rattle.c_lexer.specs.Scanning.Elements.{CanOpen}
 use Rattle.c_lexer.proofs.Totality.{directive_opens}
-use Rattle.c_lexer.proofs.laws.a_fault_opens.Goals as goal
+use Rattle.c_lexer.proofs.passing.a_fault_opens.Goals as goal
 
 pub returns-in-Directive : goal.returns-in-Directive
 returns-in-Directive c =
