@@ -1,5 +1,5 @@
 -- A recursion on a count of turns, beside a loop that counts up and puts what it finds at the end of a list.
-use Rattle.std.proofs.Common.{◌≡◌, ℕ, suc, ◌+◌, ◌-◌, ◌<◌, ◌≤◌, List, [], ◌∷◌, ◌++◌, Option, Some, None, refl, ap, ◌∙◌, arith, append_assoc, sym}
+use Rattle.std.proofs.Common.{◌≡◌, ℕ, suc, ◌+◌, ◌-◌, ◌<◌, ◌≤◌, List, [], ◌++◌, Some, None, refl, ap, ◌∙◌, arith, append_assoc, sym}
 use Rattle.std.proofs.lemmas.List.{append-nil}
 use Rattle.c_grammar.specs.Input.{Input}
 use Rattle.c_grammar.specs.Reading.{Reading, onward}

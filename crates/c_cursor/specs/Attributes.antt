@@ -1,5 +1,5 @@
 -- How an attribute behind its prefix is read (inner).
-use Rattle.std.specs.Prelude.{◌≡◌, ℕ, List, [], ◌∷◌, Some, option_and_then, codes, if◌then◌else◌}
+use Rattle.std.specs.Prelude.{ℕ, List, [], ◌∷◌, Some, option_and_then, codes, if◌then◌else◌}
 use Rattle.std.specs.Str.{bytes_eq}
 use Rattle.rc_text.specs.declared.place.Place.{Place}
 use Rattle.c_syntax.specs.declared.attribute.Attribute.{Attribute}

@@ -1,5 +1,5 @@
 -- What the steps of the cursor answer, beside what the reading functions say of the input (inner).
-use Rattle.std.specs.Prelude.{◌≡◌, ℕ, Bool, true, false, List, drop, Option, Some, None}
+use Rattle.std.specs.Prelude.{◌≡◌, Bool, true, false, drop, Option, Some, None}
 use denote.Ref.{Bor}
 use Rattle.c_lexer.specs.declared.keyword.Keyword.{Keyword}
 use Rattle.c_lexer.specs.declared.token.Token.{Token}

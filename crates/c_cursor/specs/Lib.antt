@@ -6,3 +6,4 @@ pub mod Attributes
 pub mod Cursor
 pub mod Deep
 pub mod Integers
+pub mod Scope

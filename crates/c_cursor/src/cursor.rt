@@ -1,4 +1,5 @@
 ghost use Rattle.std.specs.Prelude.{◌≡◌, ◌-◌, suc, length, drop, IfOk};
+ghost use Rattle.std.specs.Option.{is_some};
 ghost use Rattle.c_grammar.specs.Input.{mark, identifier, is_identifier, declares};
 ghost use Rattle.c_grammar.specs.Attributes.{string, quoted};
 ghost use Rattle.c_grammar.specs.Marks.{is_mark, is_keyword};
@@ -119,6 +120,17 @@ impl<'a> Cursor<'a> {
     {
         if let Some((_, rest)) = self.tokens.split_first() {
             self.tokens = rest;
+        }
+    }
+
+    /// Whether a punctuator stands next.
+    #[tactic(auto, unfolding(c_grammar::specs::Input::mark))]
+    pub fn is_next(&self, punctuator: Punctuator) -> bool
+        ensures { result ≡ is_some (mark punctuator self.now) }
+    {
+        match self.peek() {
+            Some(token) => is_mark(punctuator, token.kind),
+            None => false,
         }
     }
 
@@ -337,8 +349,8 @@ impl<'a> Cursor<'a> {
         ensures { IsRefusal result }
     {
         match self.peek() {
-            Some(token) => refusal(token.place, LeftOut::beginning_with(token.kind)),
-            None => refusal(self.end, None),
+            Some(token) => ParseRefusal::at(token.place, LeftOut::beginning_with(token.kind)),
+            None => ParseRefusal::at(self.end, None),
         }
     }
 
@@ -347,8 +359,8 @@ impl<'a> Cursor<'a> {
         ensures { IsRefusal result }
     {
         match self.peek() {
-            Some(token) => refusal(token.place, LeftOut::operand(token.kind)),
-            None => refusal(self.end, None),
+            Some(token) => ParseRefusal::at(token.place, LeftOut::operand(token.kind)),
+            None => ParseRefusal::at(self.end, None),
         }
     }
 
@@ -357,8 +369,8 @@ impl<'a> Cursor<'a> {
         ensures { IsRefusal result }
     {
         match self.second() {
-            Some(token) => refusal(token.place, LeftOut::beginning_with(token.kind)),
-            None => refusal(self.end, None),
+            Some(token) => ParseRefusal::at(token.place, LeftOut::beginning_with(token.kind)),
+            None => ParseRefusal::at(self.end, None),
         }
     }
 
@@ -381,7 +393,7 @@ impl<'a> Cursor<'a> {
             (Some(token), Some(second))
                 if is_mark(Punctuator::OpenParenthesis, token.kind)
                     && is_mark(Punctuator::Star, second.kind) => {
-                refusal(token.place, Some(LeftOut::FunctionPointer))
+                ParseRefusal::at(token.place, Some(LeftOut::FunctionPointer))
             }
             _ => self.unexpected(),
         }
@@ -396,15 +408,6 @@ impl<'a> Cursor<'a> {
         } else {
             Err(self.unexpected())
         }
-    }
-}
-
-fn refusal(place: Place, left_out: Option<LeftOut>) -> ParseRefusal
-    ensures { IsRefusal result }
-{
-    match left_out {
-        Some(name) => ParseRefusal::Refused { place, name },
-        None => ParseRefusal::Syntax { place },
     }
 }
 

@@ -1,9 +1,13 @@
-ghost use Rattle.c_cursor.specs.Deep.{Deeper};
+ghost use Rattle.std.specs.Prelude.{◌≡◌, ◌+◌};
+ghost use Rattle.c_cursor.specs.Deep.{Deeper, counted};
 
 use crate::refusal::ParseRefusal;
 
 /// How many statements, expressions and types may lie in one another.
 pub const DEPTH_LIMIT: usize = 200;
+
+/// One past the limit: no depth is counted further.
+const TOO_DEEP: usize = DEPTH_LIMIT + 1;
 
 /// A tree, or a list of trees, with its depth, which is counted no further than one past the limit.
 #[derive(Debug, Drop)]
@@ -21,4 +25,11 @@ pub fn deeper(inner: usize) -> Result<usize, ParseRefusal>
     } else {
         Err(ParseRefusal::Depth)
     }
+}
+
+/// A depth this far in, as it is counted.
+pub fn further(depth: usize, steps: usize) -> usize
+    ensures { result ≡ counted (depth + steps) }
+{
+    depth.saturating_add(steps).min(TOO_DEEP)
 }

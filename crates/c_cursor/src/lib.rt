@@ -10,14 +10,16 @@ mod deep;
 mod infix;
 mod integers;
 mod left_out;
+mod meanings;
 mod names;
 mod refusal;
 mod starts;
+mod storage;
 mod type_words;
 
 pub use attribute_lists::{attributes, name};
 pub use cursor::{Cursor, FirstToken, Identifier, Quoted};
-pub use deep::{DEPTH_LIMIT, Deep, deeper};
+pub use deep::{DEPTH_LIMIT, Deep, deeper, further};
 pub use infix::{
     ASSIGNMENT_LEVEL, CAST_LEVEL, COMMA_LEVEL, CONDITIONAL_LEVEL, Infix, POSTFIX_LEVEL,
     UNARY_LEVEL, binary_level, logical_level,
@@ -27,4 +29,5 @@ pub use left_out::LeftOut;
 pub use names::Names;
 pub use refusal::ParseRefusal;
 pub use starts::{Start, TypeStart, Word, is_type};
+pub use storage::{at_second_storage, at_storage_word, behind_storage_words, is_specifier_word};
 pub use type_words::{WordTest, is_integer_word, is_modifier, is_qualifier, pointers, words};

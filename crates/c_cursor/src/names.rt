@@ -1,6 +1,7 @@
 ghost use Rattle.std.specs.Prelude.{◌≡◌, ◌-◌, [], ◌∷◌, length, drop, IfOk};
 ghost use Rattle.c_grammar.specs.Names.{meaning_of};
 
+use crate::meanings::Meanings;
 use c_grammar::{NameEntry, NameKind};
 use rc_text::{Bytes, NoMemory};
 use std::alloc::Global;
@@ -10,7 +11,17 @@ use std::marker::Model;
 #[derive(Debug, Drop)]
 pub struct Names {
     /// The newest last.
-    entries: Vec<NameEntry>,
+    declared: Vec<Declared>,
+    /// What the newest declaration of each name makes of it.
+    meanings: Meanings,
+}
+
+/// A declaration in scope.
+#[derive(Debug, Drop)]
+struct Declared {
+    entry: NameEntry,
+    /// What its name meant before it.
+    hidden: Option<NameKind>,
 }
 
 impl Model for Names {
@@ -19,7 +30,12 @@ impl Model for Names {
 
     ghost Value = { List NameEntry };
 
-    ghost view = { λ names. reverse names.entries.items };
+    ghost use Rattle.c_cursor.specs.Scope.{entries, KeepsHidden, IsTableOf};
+
+    ghost view = { λ names. entries (reverse names.declared.items) };
+
+    ghost invariant = { λ names. KeepsHidden (reverse names.declared.items)
+        × IsTableOf (entries (reverse names.declared.items)) names.meanings };
 }
 
 impl Names {
@@ -28,7 +44,8 @@ impl Names {
         ensures { result ≡ [] }
     {
         Names {
-            entries: Vec::new(alloc),
+            declared: Vec::new(alloc),
+            meanings: Meanings::new(alloc),
         }
     }
 
@@ -36,28 +53,27 @@ impl Names {
     pub fn len(&self) -> usize
         ensures { result ≡ length self.now }
     {
-        self.entries.len()
+        self.declared.len()
     }
 
     /// What the newest declaration of a name makes of it.
     pub fn meaning(&self, name: &[u8]) -> Option<NameKind>
         ensures { result ≡ meaning_of self.now name.now }
     {
-        let mut found = None;
-        for entry in self.entries.as_slice() {
-            if entry.name.as_slice() == name {
-                found = Some(entry.kind);
-            }
-        }
-        found
+        self.meanings.get(name)
     }
 
     /// Brings a name into scope.
     pub fn declare(&mut self, alloc: Global, name: &[u8], kind: NameKind) -> Result<(), NoMemory>
         ensures { IfOk result (λ _. self.new ≡ record { name = name.now; kind = kind } ∷ self.old) }
     {
-        let name = Bytes::from_slice(alloc, name)?;
-        self.entries.push(NameEntry { name, kind })?;
+        let entry = NameEntry {
+            name: Bytes::from_slice(alloc, name)?,
+            kind,
+        };
+        self.declared.reserve(1)?;
+        let hidden = self.meanings.insert(alloc, name, kind)?;
+        self.declared.push_reserved(Declared { entry, hidden });
         Ok(())
     }
 
@@ -65,6 +81,17 @@ impl Names {
     pub fn truncate(&mut self, len: usize)
         ensures { self.new ≡ drop (length self.old - len) self.old }
     {
-        self.entries.truncate(len);
+        for _ in len..self.len() {
+            self.drop_newest();
+        }
+    }
+
+    /// Takes the newest declaration out of scope, if there is one.
+    fn drop_newest(&mut self)
+        ensures { self.new ≡ drop 1 self.old }
+    {
+        if let Some(Declared { entry, hidden }) = self.declared.pop() {
+            self.meanings.restore(entry.name.as_slice(), hidden);
+        }
     }
 }

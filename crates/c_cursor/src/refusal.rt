@@ -1,3 +1,5 @@
+ghost use Rattle.c_cursor.specs.Reads.{IsRefusal};
+
 use crate::left_out::LeftOut;
 use rc_text::{NoMemory, Place};
 use std::alloc::AllocError;
@@ -12,6 +14,18 @@ pub enum ParseRefusal {
     /// More than `DEPTH_LIMIT` statements, expressions and types lie in one another.
     Depth,
     NoMemory,
+}
+
+impl ParseRefusal {
+    /// The refusal at this place, by the name of the form that begins there, if it has one.
+    pub fn at(place: Place, left_out: Option<LeftOut>) -> ParseRefusal
+        ensures { IsRefusal result }
+    {
+        match left_out {
+            Some(name) => ParseRefusal::Refused { place, name },
+            None => ParseRefusal::Syntax { place },
+        }
+    }
 }
 
 impl From<NoMemory> for ParseRefusal {

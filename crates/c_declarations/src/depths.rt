@@ -3,8 +3,7 @@ ghost use Rattle.c_syntax.specs.Depth.{specifier_depth, expression_depth, array_
 ghost use Rattle.c_cursor.specs.Deep.{IsDeep, counted};
 ghost use Rattle.c_expressions.specs.Parts.{lengths_depth};
 
-use c_cursor::Deep;
-use c_expressions::further;
+use c_cursor::{Deep, further};
 use c_syntax::{Expr, TypeSpecifier};
 use sqlite_items::Items;
 

@@ -8,13 +8,12 @@ ghost use Rattle.c_cursor.specs.Deep.{IsDeep, ReadsDeep};
 ghost use Rattle.c_expressions.specs.Parts.{reader, ReadsSpecified};
 
 use crate::names::{initialized_names, typedef_names};
-use crate::refusals::{at_file_word, at_second_storage, behind_file_words};
+use crate::refusals::{at_file_word, behind_file_words};
 use crate::words::{agrees, declares_tag, is_local, is_typedef};
-use c_cursor::{Cursor, Deep, ParseRefusal};
+use c_cursor::{Cursor, Deep, ParseRefusal, at_second_storage};
 use c_expressions::{Specified, specified};
 use c_lexer::{Keyword, Punctuator, Token};
 use c_syntax::{Declaration, DeclarationKind, TypeSpecifier};
-use sqlite_items::Items;
 use std::alloc::Global;
 
 /// A declaration of what its type begins with and of its names, whose depth is that of the deepest.

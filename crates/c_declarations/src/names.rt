@@ -9,7 +9,6 @@ ghost use Rattle.c_declarations.specs.Parts.{declared_name, declarators_depth, i
 
 use crate::declarators::{declared, declared_behind, declared_name};
 use crate::functions::function_behind;
-use crate::refusals::is_next;
 use c_cursor::{ASSIGNMENT_LEVEL, Cursor, Deep, LeftOut, ParseRefusal, pointers};
 use c_expressions::expression;
 use c_grammar::NameKind;
@@ -47,7 +46,7 @@ pub fn typedef_names(
 fn initializer(alloc: Global, cursor: &mut Cursor<'_>) -> Result<Deep<Boxed<Expr>>, ParseRefusal>
     ensures { ReadsDeep expression_depth (reader 200 1 cursor.old) result cursor.new }
 {
-    let braced = is_next(cursor, Punctuator::OpenBrace);
+    let braced = cursor.is_next(Punctuator::OpenBrace);
     match expression(alloc, cursor, ASSIGNMENT_LEVEL) {
         Err(ParseRefusal::Syntax { place }) if braced => Err(ParseRefusal::Refused {
             place,

@@ -15,9 +15,10 @@ ghost use Rattle.c_declarations.specs.Parts.{parameters_depth, is_found, FindsVo
 
 use crate::declarators::declared_behind;
 use crate::depths::derived;
-use crate::refusals::{behind_storage_words, is_next, syntax};
-use c_cursor::{Cursor, Deep, LeftOut, ParseRefusal, TypeStart, pointers};
-use c_expressions::{Specified, all_qualifiers, at_storage_word, lengths, specified};
+use c_cursor::{
+    Cursor, Deep, LeftOut, ParseRefusal, TypeStart, at_storage_word, behind_storage_words, pointers,
+};
+use c_expressions::{Specified, all_qualifiers, lengths, specified};
 use c_grammar::NameKind;
 use c_lexer::{Punctuator, Token, TokenKind};
 use c_syntax::{AbstractDeclarator, Parameter, ParameterDeclarator, TypeSpecifier};
@@ -30,7 +31,7 @@ fn parameter_type(alloc: Global, cursor: &mut Cursor<'_>) -> Result<Specified, P
     ensures { ReadsSpecified (specified (reader 200) cursor.old) result cursor.new }
 {
     let start = cursor.rest();
-    let variadic = is_next(cursor, Punctuator::Ellipsis);
+    let variadic = cursor.is_next(Punctuator::Ellipsis);
     match specified(alloc, cursor) {
         Err(ParseRefusal::Syntax { place }) if variadic => Err(ParseRefusal::Refused {
             place,
@@ -210,8 +211,10 @@ fn at_last_taken(start: &[Token], cursor: &Cursor<'_>) -> ParseRefusal
 {
     let taken = start.len().saturating_sub(cursor.rest().len());
     match start.get(taken.saturating_sub(1)) {
-        Some(token) => syntax(token.place),
-        None => syntax(Place::START),
+        Some(token) => ParseRefusal::Syntax { place: token.place },
+        None => ParseRefusal::Syntax {
+            place: Place::START,
+        },
     }
 }
 

@@ -13,15 +13,13 @@ ghost use Rattle.c_expressions.specs.Parts.{reader, ReadsSpecified};
 ghost use Rattle.c_declarations.specs.Parts.{ReadsDeclared, declarators_depth, members_depth, member_types};
 
 use crate::declarators::declared;
-use crate::refusals::{behind_storage_words, close_members, is_next};
+use crate::refusals::close_members;
 use crate::words::declares_tag;
 use c_cursor::{
-    Cursor, DEPTH_LIMIT, Deep, LeftOut, ParseRefusal, TypeStart, WordTest, attributes,
-    has_integer_word, name, words,
+    Cursor, DEPTH_LIMIT, Deep, LeftOut, ParseRefusal, TypeStart, WordTest, at_storage_word,
+    attributes, behind_storage_words, further, has_integer_word, name, words,
 };
-use c_expressions::{
-    Specified, all_qualifiers, at_storage_word, further, integers, single_by, single_node,
-};
+use c_expressions::{Specified, all_qualifiers, integers, single_by, single_node};
 use c_lexer::Punctuator;
 use c_syntax::{
     Attribute, Declarator, MemberDeclaration, Name, RecordDefinition, RecordKind, TypeSpecifier,
@@ -229,7 +227,7 @@ fn member_declared(
     requires { IsDeep specifier_depth specifier.now }
     ensures { ReadsDeclared (specifier_depth specifier.now.tree) (declared (reader 200) cursor.old) result cursor.new }
 {
-    let bit_field = is_next(cursor, Punctuator::Colon);
+    let bit_field = cursor.is_next(Punctuator::Colon);
     match declared(alloc, cursor, specifier) {
         Err(ParseRefusal::Syntax { place }) if bit_field => Err(ParseRefusal::Refused {
             place,

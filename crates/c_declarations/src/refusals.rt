@@ -3,17 +3,9 @@ ghost use Rattle.c_lexer.specs.declared.punctuator.Punctuator.TheVariants as mar
 ghost use Rattle.c_grammar.specs.Input.{mark};
 ghost use Rattle.c_cursor.specs.Reads.{IsRefusal, Expects};
 
-use c_cursor::{Cursor, LeftOut, ParseRefusal, WordTest};
+use c_cursor::{Cursor, LeftOut, ParseRefusal, is_specifier_word};
 use c_lexer::{Keyword, Punctuator, Token, TokenKind};
 use rc_text::Place;
-
-/// Whether this punctuator stands next.
-pub(crate) fn is_next(cursor: &Cursor<'_>, punctuator: Punctuator) -> bool {
-    match cursor.peek() {
-        Some(token) => token.kind == TokenKind::Punctuator(punctuator),
-        None => false,
-    }
-}
 
 /// Why nothing goes on at the next token, behind the declarator of members.
 fn behind_member(cursor: &Cursor<'_>) -> ParseRefusal
@@ -71,21 +63,6 @@ pub(crate) fn open_parameters(cursor: &mut Cursor<'_>) -> Result<(), ParseRefusa
     }
 }
 
-pub(crate) fn syntax(place: Place) -> ParseRefusal
-    ensures { IsRefusal result }
-{
-    ParseRefusal::Syntax { place }
-}
-
-fn refusal(place: Place, left_out: Option<LeftOut>) -> ParseRefusal
-    ensures { IsRefusal result }
-{
-    match left_out {
-        Some(name) => ParseRefusal::Refused { place, name },
-        None => syntax(place),
-    }
-}
-
 fn file_object(place: Place) -> ParseRefusal
     ensures { IsRefusal result }
 {
@@ -104,7 +81,9 @@ pub(crate) fn at_file_word(start: &[Token]) -> ParseRefusal
             return file_object(token.place);
         }
     }
-    syntax(Place::START)
+    ParseRefusal::Syntax {
+        place: Place::START,
+    }
 }
 
 /// The refusal at this place, or at the first `static` or `extern` before the type.
@@ -117,61 +96,15 @@ pub(crate) fn behind_file_words(
 {
     for token in start {
         if token.place.byte >= place.byte || !is_specifier_word(token.kind) {
-            return refusal(place, left_out);
+            return ParseRefusal::at(place, left_out);
         }
         if is_file_word(token.kind) {
             return file_object(token.place);
         }
     }
-    refusal(place, left_out)
-}
-
-/// The refusal at this place, or at the first word before the type that stands only where names are declared.
-pub(crate) fn behind_storage_words(
-    start: &[Token],
-    place: Place,
-    left_out: Option<LeftOut>,
-) -> ParseRefusal
-    ensures { IsRefusal result }
-{
-    for token in start {
-        if token.place.byte >= place.byte || !is_specifier_word(token.kind) {
-            return refusal(place, left_out);
-        }
-        if is_storage(token.kind) || matches!(token.kind, TokenKind::Keyword(Keyword::Inline)) {
-            return syntax(token.place);
-        }
-    }
-    refusal(place, left_out)
-}
-
-/// The refusal at the second word of storage.
-pub(crate) fn at_second_storage(start: &[Token]) -> ParseRefusal
-    ensures { IsRefusal result }
-{
-    let mut before = false;
-    for token in start {
-        if is_storage(token.kind) {
-            if before {
-                return syntax(token.place);
-            }
-            before = true;
-        }
-    }
-    syntax(Place::START)
+    ParseRefusal::at(place, left_out)
 }
 
 fn is_file_word(kind: TokenKind) -> bool {
     matches!(kind, TokenKind::Keyword(Keyword::Static | Keyword::Extern))
-}
-
-fn is_storage(kind: TokenKind) -> bool {
-    matches!(kind, TokenKind::Keyword(Keyword::Typedef)) || is_file_word(kind)
-}
-
-fn is_specifier_word(kind: TokenKind) -> bool {
-    match kind {
-        TokenKind::Keyword(word) => WordTest::Specifier.holds(word),
-        _ => false,
-    }
 }

@@ -12,7 +12,7 @@ mod words;
 
 pub use expressions::{expression, lengths, single_by, specified};
 pub use parts::{Begun, Specified};
-pub use words::{all_qualifiers, at_storage_word, further, integers, single_node};
+pub use words::{all_qualifiers, integers, single_node};
 
 #[cfg(test)]
 mod tests;

@@ -18,10 +18,10 @@ ghost use Rattle.c_cursor.specs.Starts.{type_seen};
 
 use crate::grammar::Grammar;
 use crate::parts::Specified;
-use crate::words::{all_qualifiers, at_storage_word, further, integers, single_node};
+use crate::words::{all_qualifiers, integers, single_node};
 use c_cursor::{
-    CONDITIONAL_LEVEL, Cursor, Deep, ParseRefusal, TypeStart, WordTest, attributes,
-    has_integer_word, name, pointers, words,
+    CONDITIONAL_LEVEL, Cursor, Deep, ParseRefusal, TypeStart, WordTest, at_storage_word,
+    attributes, behind_storage_words, further, has_integer_word, name, pointers, words,
 };
 use c_grammar::NameKind;
 use c_lexer::{Keyword, Punctuator};
@@ -50,7 +50,7 @@ impl<
             }
             let length = self.expression(cursor, CONDITIONAL_LEVEL)?;
             cursor.expect(Punctuator::CloseBracket)?;
-            depth = one_more(further(length.depth, tree.len())).max(depth);
+            depth = further(further(length.depth, tree.len()), 1).max(depth);
             tree.push(length.tree.into_inner())?;
         }
         Err(cursor.unexpected())
@@ -123,7 +123,7 @@ impl<
             result cursor.new }
     {
         let enumerators = self.enumerators(cursor)?;
-        let depth = one_more(enumerators.depth);
+        let depth = further(enumerators.depth, 1);
         Ok(Deep {
             tree: TypeSpecifier::EnumDefinition(EnumDefinition {
                 attributes,
@@ -263,6 +263,21 @@ impl<
         })
     }
 
+    /// What a type's name begins with: words of storage may not.
+    fn named_type(&self, cursor: &mut Cursor<'_>) -> Result<Specified, ParseRefusal>
+        requires { Nests self.now.room (F.pre self.now.read.now) (F.post self.now.read.now) }
+        ensures { ReadsSpecified (specified (reader self.now.room) cursor.old) result cursor.new }
+    {
+        let start = cursor.rest();
+        match self.specified(cursor) {
+            Err(ParseRefusal::Syntax { place }) => Err(behind_storage_words(start, place, None)),
+            Err(ParseRefusal::Refused { place, name }) => {
+                Err(behind_storage_words(start, place, Some(name)))
+            }
+            read => read,
+        }
+    }
+
     /// A type's name, where no more may nest in it than in this.
     #[tactic(auto, using(crate::proofs::TypeDepths::type_depths), unfolding(c_grammar::specs::Reading::type_named))]
     fn type_named(&self, cursor: &mut Cursor<'_>) -> Result<Deep<Boxed<TypeName>>, ParseRefusal>
@@ -270,7 +285,7 @@ impl<
         ensures { ReadsDeep type_name_depth (type_named (reader self.now.room) cursor.old) result cursor.new }
     {
         let start = cursor.rest();
-        let found = self.specified(cursor)?;
+        let found = self.named_type(cursor)?;
         if !all_qualifiers(found.words.as_slice()) {
             return Err(at_storage_word(start));
         }
@@ -297,13 +312,6 @@ impl<
         }
         .type_named(cursor)
     }
-}
-
-/// One more than a depth that is counted up to one past the limit.
-fn one_more(depth: usize) -> usize
-    ensures { result ≡ min (depth + 1) 201 }
-{
-    further(depth, 1)
 }
 
 #[tactic(auto, using(crate::proofs::TypeDepths::type_depths))]

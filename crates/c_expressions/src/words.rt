@@ -1,5 +1,5 @@
-//! The words beside types, where others than they may stand are refused, and how deep types are counted.
-ghost use Rattle.std.specs.Prelude.{◌≡◌, ◌+◌, min, Some, option_and_then};
+//! The words beside types, and where those of no integer type are refused.
+ghost use Rattle.std.specs.Prelude.{◌≡◌, Some, option_and_then};
 ghost use Rattle.std.specs.List.{list_all, filter};
 ghost use Rattle.c_syntax.specs.Depth.{specifier_depth};
 ghost use Rattle.c_grammar.specs.Specifiers.{is_qualifier, is_modifier, integer_type};
@@ -9,30 +9,17 @@ ghost use Rattle.c_grammar.specs.Input.{Input};
 ghost use Rattle.c_cursor.specs.Reads.{IsRefusal};
 
 use crate::parts::Specified;
-use c_cursor::{
-    DEPTH_LIMIT, Deep, ParseRefusal, integer_type, is_integer_word, is_modifier, is_qualifier,
-    modifiers,
-};
-use c_lexer::{Keyword, Token, TokenKind};
+use c_cursor::{Deep, ParseRefusal, integer_type, is_integer_word, is_qualifier, modifiers};
+use c_lexer::{Keyword, Token};
 use c_syntax::TypeSpecifier;
 use rc_text::Place;
 use sqlite_items::Items;
 use std::alloc::Global;
 
-/// One past the limit, further than which no depth is counted.
-const TOO_DEEP: usize = DEPTH_LIMIT + 1;
-
 pub fn all_qualifiers(words: &[Keyword]) -> bool
     ensures { result ≡ list_all is_qualifier words.now }
 {
     words.iter().all(|word| is_qualifier(*word))
-}
-
-/// A depth this far in.
-pub fn further(depth: usize, steps: usize) -> usize
-    ensures { result ≡ min (depth + steps) 201 }
-{
-    depth.saturating_add(steps).min(TOO_DEEP)
 }
 
 /// A specified type that is one node.
@@ -64,12 +51,6 @@ pub fn integers(
     }
 }
 
-fn syntax(place: Place) -> ParseRefusal
-    ensures { IsRefusal result }
-{
-    ParseRefusal::Syntax { place }
-}
-
 /// The refusal at the first word with which those before it name no type.
 fn at_wrong_word(words: &[Keyword], start: &[Token]) -> ParseRefusal
     ensures { IsRefusal result }
@@ -77,28 +58,11 @@ fn at_wrong_word(words: &[Keyword], start: &[Token]) -> ParseRefusal
     for (at, token) in start.iter().enumerate() {
         if at < words.len() && is_integer_word(words[at]) {
             if integer_type(&words[..at + 1]).is_none() {
-                return syntax(token.place);
+                return ParseRefusal::Syntax { place: token.place };
             }
         }
     }
-    syntax(Place::START)
-}
-
-/// The refusal at the first word that stands only in declarations.
-pub fn at_storage_word(start: &[Token]) -> ParseRefusal
-    ensures { IsRefusal result }
-{
-    for token in start {
-        if is_storage_word(token.kind) {
-            return syntax(token.place);
-        }
-    }
-    syntax(Place::START)
-}
-
-fn is_storage_word(kind: TokenKind) -> bool {
-    match kind {
-        TokenKind::Keyword(word) => is_modifier(word) && !is_qualifier(word),
-        _ => false,
+    ParseRefusal::Syntax {
+        place: Place::START,
     }
 }

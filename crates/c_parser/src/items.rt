@@ -1,5 +1,5 @@
 //! Definitions and declarations at file scope (C11 6.9).
-ghost use Rattle.std.specs.Prelude.{◌≡◌, ◌+◌, suc, min};
+ghost use Rattle.std.specs.Prelude.{◌≡◌, ◌+◌, suc};
 ghost use Rattle.std.specs.List.{list_all};
 ghost use Rattle.c_syntax.specs.Depth.{specifier_depth, function_depth, item_depth};
 ghost use Rattle.c_grammar.specs.Grammar.{is_named};
@@ -7,17 +7,17 @@ ghost use Rattle.c_grammar.specs.Declarations.{declaration};
 ghost use Rattle.c_grammar.specs.FileReading.{functions_behind, functions, item_behind, any_item, item, items_from};
 ghost use Rattle.c_grammar.specs.Reading.{turns};
 ghost use Rattle.c_cursor.specs.Deep.{IsDeep, ReadsDeep};
-ghost use Rattle.c_cursor.specs.Reads.{IsRefusal, Reads};
+ghost use Rattle.c_cursor.specs.Reads.{Reads};
 ghost use Rattle.c_syntax.specs.declared.unit.ItemKind.TheVariants as items;
 ghost use Rattle.c_parser.specs.Items.{with_body, one_item, Finds, BeginsBody};
 
-use c_cursor::{Cursor, DEPTH_LIMIT, Deep, ParseRefusal, attributes};
+use c_cursor::{Cursor, DEPTH_LIMIT, Deep, ParseRefusal, at_second_storage, attributes, further};
 use c_declarations::{
     agrees, declares_tag, defining, function_declared, function_names, is_typedef, typedef_names,
 };
-use c_expressions::{Specified, further};
+use c_expressions::Specified;
 use c_grammar::NameKind;
-use c_lexer::{Keyword, Punctuator, Token, TokenKind};
+use c_lexer::{Keyword, Punctuator, TokenKind};
 use c_statements::function_body;
 use c_syntax::{
     Declaration, DeclarationKind, FunctionDeclarator, FunctionDefinition, InitDeclarator, Item,
@@ -26,31 +26,6 @@ use c_syntax::{
 use rc_text::{Bytes, Place};
 use sqlite_items::Items;
 use std::alloc::Global;
-
-/// The refusal at the second word of storage.
-fn at_second_storage(start: &[Token]) -> ParseRefusal
-    ensures { IsRefusal result }
-{
-    let mut before = false;
-    for token in start {
-        if is_storage(token.kind) {
-            if before {
-                return ParseRefusal::Syntax { place: token.place };
-            }
-            before = true;
-        }
-    }
-    ParseRefusal::Syntax {
-        place: Place::START,
-    }
-}
-
-fn is_storage(kind: TokenKind) -> bool {
-    matches!(
-        kind,
-        TokenKind::Keyword(Keyword::Typedef | Keyword::Static | Keyword::Extern)
-    )
-}
 
 fn is_named(parameter: &Parameter) -> bool
     ensures { result ≡ is_named parameter.now.declarator }
@@ -256,9 +231,9 @@ fn body_place(cursor: &Cursor<'_>) -> Option<Place>
     ensures { BeginsBody cursor.now result }
 {
     match cursor.peek() {
-        Some(token) if token.kind == TokenKind::Punctuator(Punctuator::OpenBrace) => Some(
-            token.place,
-        ),
+        Some(token) if token.kind == TokenKind::Punctuator(Punctuator::OpenBrace) => {
+            Some(token.place)
+        }
         _ => None,
     }
 }

@@ -1,9 +1,6 @@
 //! The parts of statements that aren't statements.
 ghost use Rattle.std.specs.Prelude.{◌≡◌};
-ghost use Rattle.std.specs.Option.{is_some};
 ghost use Rattle.c_syntax.specs.Depth.{expression_depth, init_depth};
-ghost use Rattle.c_grammar.specs.Input.{mark};
-ghost use Rattle.c_grammar.specs.Marks.{is_mark};
 ghost use Rattle.c_grammar.specs.StatementReading.{tested, optional, begun_expression, begun_declaration, begun};
 ghost use Rattle.c_cursor.specs.Deep.{ReadsDeep};
 ghost use Rattle.c_expressions.specs.Parts.{reader};
@@ -13,7 +10,7 @@ ghost use Rattle.c_statements.specs.Productions.{begun_attributed, begun_other};
 use c_cursor::{COMMA_LEVEL, Cursor, Deep, ParseRefusal, attributes};
 use c_declarations::local_declaration;
 use c_expressions::expression;
-use c_lexer::{Punctuator, TokenKind};
+use c_lexer::Punctuator;
 use c_syntax::{Attribute, Expr, ForInit};
 use sqlite_items::{Boxed, Items};
 use std::alloc::Global;
@@ -32,26 +29,6 @@ pub(crate) fn tested(
     Ok(found)
 }
 
-fn is_mark(punctuator: Punctuator, kind: TokenKind) -> bool
-    ensures { result ≡ is_mark punctuator kind }
-{
-    match kind {
-        TokenKind::Punctuator(other) => punctuator == other,
-        _ => false,
-    }
-}
-
-/// Whether the punctuator stands next.
-#[tactic(auto, unfolding(c_grammar::specs::Input::mark))]
-fn stands(cursor: &Cursor<'_>, punctuator: Punctuator) -> bool
-    ensures { result ≡ is_some (mark punctuator cursor.now) }
-{
-    match cursor.peek() {
-        Some(token) => is_mark(punctuator, token.kind),
-        None => false,
-    }
-}
-
 /// An expression before the punctuator, or nothing.
 #[tactic(auto, unfolding(c_grammar::specs::StatementReading::optional))]
 pub(crate) fn optional(
@@ -61,7 +38,7 @@ pub(crate) fn optional(
 ) -> Result<Deep<Option<Expr>>, ParseRefusal>
     ensures { ReadsDeep optional_depth (optional (reader 200) end cursor.old) result cursor.new }
 {
-    if stands(cursor, end) {
+    if cursor.is_next(end) {
         return Ok(Deep {
             tree: None,
             depth: 0,
@@ -130,7 +107,7 @@ fn begun_attributed(alloc: Global, cursor: &mut Cursor<'_>) -> Result<Deep<ForIn
 fn begun_other(alloc: Global, cursor: &mut Cursor<'_>) -> Result<Deep<ForInit>, ParseRefusal>
     ensures { ReadsDeep init_depth (begun_other (reader 200) cursor.old) result cursor.new }
 {
-    if stands(cursor, Punctuator::OpenBracket) {
+    if cursor.is_next(Punctuator::OpenBracket) {
         begun_attributed(alloc, cursor)
     } else if cursor.begins_type() {
         begun_declaration(alloc, cursor, Items::new(alloc))

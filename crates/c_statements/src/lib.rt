@@ -2,6 +2,7 @@
 //! grammar give, with the depth of the deepest, or a refusal where they give none. Statements nest 200 times at most.
 #![tactic(auto)]
 
+mod bodies;
 mod children;
 mod heads;
 mod labels;
@@ -10,4 +11,4 @@ mod nodes;
 mod position;
 mod productions;
 
-pub use productions::function_body;
+pub use bodies::function_body;

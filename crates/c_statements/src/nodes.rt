@@ -4,21 +4,14 @@ ghost use Rattle.c_syntax.specs.Depth.{expression_depth, declaration_depth, stat
 ghost use Rattle.c_syntax.specs.declared.stmt.StmtKind.TheVariants as kinds;
 ghost use Rattle.c_grammar.specs.Depths.{kind_depth};
 ghost use Rattle.c_grammar.specs.StatementReading.{stated};
-ghost use Rattle.c_cursor.specs.Deep.{IsDeep, KeepsDeep, counted};
+ghost use Rattle.c_cursor.specs.Deep.{IsDeep, KeepsDeep};
 ghost use Rattle.c_statements.specs.Parts.{labels_depth, statements_depth, optional_depth};
 
-use c_cursor::{DEPTH_LIMIT, Deep, ParseRefusal};
+use c_cursor::{Deep, ParseRefusal, further};
 use c_syntax::{Attribute, Declaration, Expr, ForInit, Label, Stmt, StmtKind};
 use rc_text::Place;
 use sqlite_items::{Boxed, Items};
 use std::alloc::Global;
-
-/// The depth, as it is counted, of a node whose deepest part has this one.
-fn over(inner: usize) -> usize
-    ensures { result ≡ counted (inner + 1) }
-{
-    inner.min(DEPTH_LIMIT) + 1
-}
 
 /// A statement behind its labels.
 #[tactic(auto, using(crate::proofs::Depths::depths))]
@@ -34,7 +27,7 @@ pub(crate) fn stated(
     ensures depth { IsDeep statement_depth result }
 {
     Deep {
-        depth: kind.depth.max(over(labels.depth)),
+        depth: kind.depth.max(further(labels.depth, 1)),
         tree: Stmt {
             place,
             labels: labels.tree,
@@ -89,7 +82,7 @@ pub(crate) fn compound(children: Deep<Items<Stmt>>) -> Deep<StmtKind>
     ensures depth { IsDeep kind_depth result }
 {
     Deep {
-        depth: over(children.depth),
+        depth: further(children.depth, 1),
         tree: StmtKind::Compound(children.tree),
     }
 }
@@ -101,7 +94,7 @@ pub(crate) fn declaration(inner: Deep<Declaration>) -> Deep<StmtKind>
     ensures depth { IsDeep kind_depth result }
 {
     Deep {
-        depth: over(inner.depth),
+        depth: further(inner.depth, 1),
         tree: StmtKind::Declaration(inner.tree),
     }
 }
@@ -113,7 +106,7 @@ pub(crate) fn expression(inner: Deep<Boxed<Expr>>) -> Deep<StmtKind>
     ensures depth { IsDeep kind_depth result }
 {
     Deep {
-        depth: over(inner.depth),
+        depth: further(inner.depth, 1),
         tree: StmtKind::Expression(inner.tree.into_inner()),
     }
 }
@@ -126,7 +119,7 @@ pub(crate) fn if_then(test: Deep<Boxed<Expr>>, then: Deep<Boxed<Stmt>>) -> Deep<
     ensures depth { IsDeep kind_depth result }
 {
     Deep {
-        depth: over(test.depth.max(then.depth)),
+        depth: further(test.depth.max(then.depth), 1),
         tree: StmtKind::If {
             test: test.tree.into_inner(),
             then: then.tree,
@@ -147,7 +140,7 @@ pub(crate) fn if_else(
     ensures depth { IsDeep kind_depth result }
 {
     Deep {
-        depth: over(test.depth.max(then.depth.max(otherwise.depth))),
+        depth: further(test.depth.max(then.depth.max(otherwise.depth)), 1),
         tree: StmtKind::IfElse {
             test: test.tree.into_inner(),
             then: then.tree,
@@ -164,7 +157,7 @@ pub(crate) fn switch(value: Deep<Boxed<Expr>>, body: Deep<Boxed<Stmt>>) -> Deep<
     ensures depth { IsDeep kind_depth result }
 {
     Deep {
-        depth: over(value.depth.max(body.depth)),
+        depth: further(value.depth.max(body.depth), 1),
         tree: StmtKind::Switch {
             value: value.tree.into_inner(),
             body: body.tree,
@@ -180,7 +173,7 @@ pub(crate) fn while_loop(test: Deep<Boxed<Expr>>, body: Deep<Boxed<Stmt>>) -> De
     ensures depth { IsDeep kind_depth result }
 {
     Deep {
-        depth: over(test.depth.max(body.depth)),
+        depth: further(test.depth.max(body.depth), 1),
         tree: StmtKind::While {
             test: test.tree.into_inner(),
             body: body.tree,
@@ -196,7 +189,7 @@ pub(crate) fn do_loop(body: Deep<Boxed<Stmt>>, test: Deep<Boxed<Expr>>) -> Deep<
     ensures depth { IsDeep kind_depth result }
 {
     Deep {
-        depth: over(body.depth.max(test.depth)),
+        depth: further(body.depth.max(test.depth), 1),
         tree: StmtKind::Do {
             body: body.tree,
             test: test.tree.into_inner(),
@@ -219,7 +212,7 @@ pub(crate) fn for_loop(
     ensures depth { IsDeep kind_depth result }
 {
     let head = init.depth.max(test.depth);
-    let depth = over(head.max(step.depth.max(body.depth)));
+    let depth = further(head.max(step.depth.max(body.depth)), 1);
     Deep {
         depth,
         tree: StmtKind::For {
@@ -238,7 +231,7 @@ pub(crate) fn returned(value: Deep<Option<Expr>>) -> Deep<StmtKind>
     ensures depth { IsDeep kind_depth result }
 {
     Deep {
-        depth: over(value.depth),
+        depth: further(value.depth, 1),
         tree: StmtKind::Return(value.tree),
     }
 }

@@ -3,27 +3,25 @@
 ghost use Rattle.std.specs.Prelude.{◌≡◌};
 ghost use Rattle.c_syntax.specs.Depth.{expression_depth, statement_depth};
 ghost use Rattle.c_grammar.specs.Depths.{kind_depth};
-ghost use Rattle.c_grammar.specs.Reading.{turns};
-ghost use Rattle.c_grammar.specs.Statements.{outermost};
-ghost use Rattle.c_grammar.specs.StatementReading.{kind_at, statement, children_from, if_behind, switch_behind};
+ghost use Rattle.c_grammar.specs.StatementReading.{kind_at, statement, if_behind, switch_behind};
 ghost use Rattle.c_grammar.specs.StatementReading.{while_behind, do_behind, for_behind, jump, return_behind};
 ghost use Rattle.c_grammar.specs.StatementReading.{expression_kind, jump_kind, loop_kind, keyword_kind, kind_with};
 ghost use Rattle.c_cursor.specs.Deep.{IsDeep, ReadsDeep};
 ghost use Rattle.c_cursor.specs.Reads.{IsRefusal};
 ghost use Rattle.c_expressions.specs.Parts.{reader};
 ghost use Rattle.c_statements.specs.Nests.{Nests};
-ghost use Rattle.c_statements.specs.Parts.{statements_depth, position_seen};
+ghost use Rattle.c_statements.specs.Parts.{position_seen};
 ghost use Rattle.c_statements.specs.Productions.{enclosed, compound_behind, perhaps_else};
 
 use crate::heads::{begun, optional, tested};
 use crate::nesting::Statements;
 use crate::nodes;
 use crate::position::Position;
-use c_cursor::{COMMA_LEVEL, Cursor, DEPTH_LIMIT, Deep, ParseRefusal};
+use c_cursor::{COMMA_LEVEL, Cursor, Deep, ParseRefusal};
 use c_expressions::expression;
 use c_lexer::{Keyword, Punctuator};
 use c_syntax::{Expr, Stmt, StmtKind};
-use sqlite_items::{Boxed, Items};
+use sqlite_items::Boxed;
 use std::alloc::Global;
 
 impl<
@@ -303,7 +301,7 @@ impl<
 
 /// A statement behind its labels and attributes, in which so many may nest.
 #[tactic(auto, unfolding(c_grammar::specs::StatementReading::kind_at))]
-fn nested_kind(
+pub(crate) fn nested_kind(
     alloc: Global,
     cursor: &mut Cursor<'_>,
     room: usize,
@@ -320,25 +318,4 @@ fn nested_kind(
         read: &nested_kind,
     }
     .kind(cursor, position)
-}
-
-/// The statements of a function's body behind its opening brace, with the closing one.
-///
-/// # Errors
-///
-/// `Depth` where more statements or expressions nest than `DEPTH_LIMIT`, `Syntax` and `Refused` at the first token at
-/// which they can't go on.
-pub fn function_body(
-    alloc: Global,
-    cursor: &mut Cursor<'_>,
-) -> Result<Deep<Items<Stmt>>, ParseRefusal>
-    ensures { ReadsDeep statements_depth (children_from (reader 200) (kind_at (reader 200) 200) outermost
-        (turns cursor.old) cursor.old) result cursor.new }
-{
-    Statements {
-        alloc,
-        room: DEPTH_LIMIT,
-        read: &nested_kind,
-    }
-    .children(cursor, Position::outermost())
 }

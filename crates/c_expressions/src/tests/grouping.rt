@@ -44,6 +44,50 @@ fn operators_group_by_precedence(rt: HostRuntime) -> Result<(), Fail> {
     Ok(())
 }
 
+/// The assignment operators (C11 6.5.16).
+const ASSIGNMENTS: &[&str] = &[
+    "=", "*=", "/=", "%=", "+=", "-=", "<<=", ">>=", "&=", "^=", "|=",
+];
+
+#[test]
+fn assignments_group_to_the_right(rt: HostRuntime) -> Result<(), Fail> {
+    let alloc = rt.alloc();
+    for operator in ASSIGNMENTS {
+        let text = format!(in alloc; "a {operator} b {operator} c")?;
+        let want = format!(in alloc; "({operator} a ({operator} b c))")?;
+        let found = outcome(&rt, alloc, text.as_bytes())?;
+        assert!(rt; found == want, "{text} is {found}");
+    }
+    Ok(())
+}
+
+/// What headers give: operations are called alone, and `NULL` is no name.
+#[test]
+fn names_of_headers_are_read(rt: HostRuntime) -> Result<(), Fail> {
+    expect_rows(
+        &rt,
+        rt.alloc(),
+        &[
+            ("atomic_load(a)", "(atomic_load a)"),
+            ("#include <stdatomic.h>\natomic_load(&a)", "(atomic (& a))"),
+            ("#include <stdatomic.h>\natomic_store(a, b)", "(atomic a b)"),
+            (
+                "#include <stdatomic.h>\natomic_exchange(a, b)",
+                "(atomic a b)",
+            ),
+            (
+                "#include <stdatomic.h>\natomic_compare_exchange_strong(a, b, c)",
+                "(atomic a b c)",
+            ),
+            ("#include <stdatomic.h>\natomic_load", "syntax at 34"),
+            ("#include <stdatomic.h>\n(atomic_bool)a", "(cast a)"),
+            ("#include <stddef.h>\nNULL == a", "(== NULL a)"),
+            ("#include <stdint.h>\nsizeof (uint8_t *)", "(sizeof)"),
+            ("#include <stdbool.h>\ntrue + (bool)false", "(+ 1 (cast 1))"),
+        ],
+    )
+}
+
 #[test]
 fn other_expressions_group_by_the_grammar(rt: HostRuntime) -> Result<(), Fail> {
     expect_rows(

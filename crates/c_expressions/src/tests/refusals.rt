@@ -34,6 +34,8 @@ fn refusals_stand_where_nothing_goes_on(rt: HostRuntime) -> Result<(), Fail> {
             ("sizeof (T", "syntax at 9"),
             ("_Alignof a", "syntax at 9"),
             ("(static int)a", "syntax at 1"),
+            ("sizeof (static y)", "syntax at 8"),
+            ("(const inline double)a", "syntax at 7"),
             ("(unsigned signed)a", "syntax at 10"),
             ("\"s\"", "StringLiteral at 0"),
             ("a + 1.5", "FloatingConstant at 4"),

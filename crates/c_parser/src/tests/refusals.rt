@@ -117,7 +117,12 @@ fn forms_are_refused_by_their_names(rt: HostRuntime) -> Result<(), Fail> {
         &rt,
         rt.alloc(),
         &[
+            (
+                "[[rc::requires(\"{true}\")]] void f(void) { goto x; }",
+                "1:43 goto",
+            ),
             ("int f(void) { goto l; }", "1:15 goto"),
+            ("double d;", "1:1 double"),
             ("double f(void);", "1:1 double"),
             ("float f(void);", "1:1 float"),
             ("volatile int f(void);", "1:1 volatile"),
@@ -155,6 +160,16 @@ fn forms_are_refused_by_their_names(rt: HostRuntime) -> Result<(), Fail> {
             ("struct s { int b; } a;", "1:22 file object"),
             ("int f(void), a;", "1:15 file object"),
             ("int f(void) { static int a; }", "1:15 file object"),
+            ("int f(void) { if (a) static int b; }", "1:22 file object"),
+            (
+                "int f(void) { return sizeof(static y); }",
+                "1:29 file object",
+            ),
+            ("int f(void) { (extern int) a; }", "1:16 file object"),
+            ("int f(void) { int g(static int a); }", "1:21 file object"),
+            ("int f(void) { a + static b; }", "1:19 file object"),
+            ("enum { A = sizeof(static y) };", "1:19 syntax"),
+            ("int f(int a[sizeof(static y)]);", "1:20 syntax"),
             ("int f(void) { extern int g(void); }", "1:15 file object"),
         ],
     )
