@@ -1,5 +1,5 @@
 -- What a call answers for a term, from what it answers for the term's parts.
-use Rattle.std.proofs.Common.{◌≡◌, ℕ, suc, ◌+◌, ◌<◌, ◌≤◌, length, drop, get_or, pos, Some, None, unwrap_or, add-one, append_assoc, append-nil, drop-cons, Bool, true, false, not, ◌||◌, cond, List, [], ◌∷◌, ◌++◌, map, refl, ap, ◌∙◌, sym, subst, ℤ, Result, Ok, Err}
+use Rattle.std.proofs.Common.{◌≡◌, ℕ, suc, ◌+◌, ◌<◌, length, drop, get_or, pos, unwrap_or, add-one, append_assoc, drop-cons, Bool, true, false, not, ◌||◌, cond, List, [], ◌∷◌, ◌++◌, map, refl, ap, ◌∙◌, sym, subst, ℤ, Result, Ok, Err}
 use Rattle.std.specs.List.{list_any}
 use Rattle.rc_terms.specs.declared.term.Term.{Term}
 use Rattle.rc_terms.specs.declared.term.Term.TheOpen.{Term-F}
@@ -13,13 +13,12 @@ use Rattle.rc_terms.specs.declared.value.TermValue.{TermValue}
 use Rattle.rc_terms.specs.declared.value.TermValue.TheVariants as values
 use Rattle.rc_terms.specs.Operators.{number_of, truth_of, list_of, updated, unary, binary, is_within, Gives}
 use Rattle.rc_terms.specs.Evaluation.{Environment, value_of, value_step, passes_width, Computes}
-use Rattle.std.proofs.lemmas.List.{drop_all}
 use Rattle.rc_terms.specs.declared.location.Loc.TheVariants as locations
 use Rattle.rc_terms.specs.Bindings.{binding_of}
 use Rattle.rc_terms.proofs.Widths.{width-Variable, width-Integer, width-Truth, width-Null, width-List, width-Unary, width-Binary, width-Conditional, width-Update}
 
 -- a refusal stands for a term where it stands for a part whose wide numbers are the term's
-pub fails : (e : TermRefusal) (part whole : TermValue) (wide wider : Bool) → (wide ≡ true → wider ≡ true)
+pub fails : {T U : Type 0} (e : TermRefusal) (part : T) (whole : U) (wide wider : Bool) → (wide ≡ true → wider ≡ true)
     → Computes (Err e) part wide → Computes (Err e) whole wider
 fails Width part whole wide wider h f = h f
 fails NoMemory part whole wide wider h f = tt
@@ -146,19 +145,7 @@ module _ (env : Environment) where
   pub moved_back : (r : Result TermValue TermRefusal) {term other : Term} → other ≡ term → Answers r term → Answers r other
   moved_back r e = subst (Answers r) (sym e)
 
-  any_here : (element : Term) (rest : List Term) → passes_width env element ≡ true
-      → list_any (passes_width env) (element ∷ rest) ≡ true
-  any_here element rest h = rw h refl
-
   -- the elements of a list one by one
-  pub element_fails : (e : TermRefusal) (elements : List Term) (k : ℕ) (element : Term)
-      → k < length elements → element ≡ get_or elements k element
-      → list_any (passes_width env) (drop k elements) ≡ list_any (passes_width env) elements
-      → Answers (Err e) element → Answers (Err e) (terms.List elements)
-  element_fails e elements k element within is same =
-      let front : drop k elements ≡ element ∷ drop (suc k) elements = drop-cons elements k element within ∙ ap (λ t. t ∷ drop (suc k) elements) (sym is) in
-      fails e _ _ _ _ (λ h. width-List env elements ∙ sym same ∙ ap (list_any (passes_width env)) front ∙ any_here element (drop (suc k) elements) h)
-
   pub next_number : (elements : List Term) (k : ℕ) (element : Term) (value : TermValue) (numbers whole : List ℤ)
       → k < length elements → element ≡ get_or elements k element → Answers (Ok value) element
       → numbers ++ map number_of (map (value_of env) (drop k elements)) ≡ whole
@@ -180,32 +167,22 @@ module _ (env : Environment) where
       (ap (λ b. b || list_any (passes_width env) (drop (suc k) elements)) (sym h.1)
       ∙ ap (list_any (passes_width env)) (sym front) ∙ same)
 
-  pub list_answers : (elements : List Term) (k : ℕ) (numbers : List ℤ) → length elements ≤ k
-      → numbers ++ map number_of (map (value_of env) (drop k elements)) ≡ map number_of (map (value_of env) elements)
-      → list_any (passes_width env) (drop k elements) ≡ list_any (passes_width env) elements
+  pub elements_fail : (e : TermRefusal) (elements : List Term)
+      → Computes (Err e) (map number_of (map (value_of env) elements)) (list_any (passes_width env) elements)
+      → Answers (Err e) (terms.List elements)
+  elements_fail e elements = fails e _ _ _ _ (λ wide. width-List env elements ∙ wide)
+
+  pub list_answers : (elements : List Term) (numbers : List ℤ)
+      → Computes (Ok numbers) (map number_of (map (value_of env) elements)) (list_any (passes_width env) elements)
       → Answers (Ok (values.List numbers)) (terms.List elements)
-  list_answers elements k numbers past same same' =
-      let none : drop k elements ≡ [] = drop_all k elements past in
-      let all : numbers ≡ map number_of (map (value_of env) elements) =
-      sym (append-nil numbers) ∙ ap (λ l. numbers ++ map number_of (map (value_of env) l)) (sym none) ∙ same in (
-        ap values.List all ∙ sym (value-List elements),
-        width-List env elements ∙ sym same' ∙ ap (list_any (passes_width env)) none,
-      )
+  list_answers elements numbers h = (ap values.List h.0 ∙ sym (value-List elements), width-List env elements ∙ h.1)
 
 -- a name's value, and what is its own value
 module _ (env : Environment) where
-  pub bound_answers : (name : List ℕ) (value copy : TermValue) → copy ≡ value → binding_of name env ≡ Some value
-      → Answers env (Ok copy) (terms.Variable name)
-  bound_answers name value copy same found = (
-    same ∙ ap (λ o. unwrap_or o (values.Integer (pos 0))) (sym found)
-        ∙ sym (ap (value_of env) (sym (terms.rolls-Variable name)) ∙ fold-roll-Term TermValue (value_step env) (Term-F.Variable name)),
-    width-Variable env name,
-  )
-
-  pub unbound_answers : (name : List ℕ) → binding_of name env ≡ None → Answers env (Ok (values.Integer (pos 0))) (terms.Variable name)
-  unbound_answers name found = (
-    ap (λ o. unwrap_or o (values.Integer (pos 0))) (sym found)
-        ∙ sym (ap (value_of env) (sym (terms.rolls-Variable name)) ∙ fold-roll-Term TermValue (value_step env) (Term-F.Variable name)),
+  pub name_answers : (name : List ℕ) (value : TermValue)
+      → value ≡ unwrap_or (binding_of name env) (values.Integer (pos 0)) → Answers env (Ok value) (terms.Variable name)
+  name_answers name value is = (
+    is ∙ sym (ap (value_of env) (sym (terms.rolls-Variable name)) ∙ fold-roll-Term TermValue (value_step env) (Term-F.Variable name)),
     width-Variable env name,
   )
 

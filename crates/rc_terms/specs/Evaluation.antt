@@ -52,8 +52,8 @@ width_step env node = false
 abbrev pub passes_width : Environment → Term → Bool
 passes_width env = para-Term Bool (width_step env)
 
--- a call gives this value and no number left the 128 bits, says that one did, or finds no memory
-abbrev pub Computes : Result TermValue TermRefusal → TermValue → Bool → Type 0
+-- a call gives this and no number left the 128 bits, says that one did, or finds no memory
+abbrev pub Computes : {T : Type 0} → Result T TermRefusal → T → Bool → Type 0
 Computes (Ok found) value wide = (found ≡ value) × (wide ≡ false)
 Computes (Err refusals.Width) value wide = wide ≡ true
 Computes (Err refusals.NoMemory) value wide = Unit {0}

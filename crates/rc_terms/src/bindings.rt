@@ -4,12 +4,16 @@ ghost use Rattle.rc_terms.specs.Bindings.{binding_of};
 use crate::name::Name;
 use crate::value::TermValue;
 use std::alloc::{AllocError, Global};
+use std::collections::BTreeMap;
 use std::marker::Model;
 
-/// Names with what each stands for. Of two entries of one name the later one counts.
+/// Names with what each stands for. Of two entries of one name the later one counts. A name is looked up among those of
+/// its like by order, so in steps of the logarithm of their number.
 #[derive(Debug, Drop)]
 pub struct Bindings<T> {
     entries: Vec<(Name, T)>,
+    /// The place of the last entry of each name.
+    newest: BTreeMap<String, usize>,
 }
 
 /// Names with their values: what a term is evaluated under.
@@ -18,12 +22,15 @@ pub type Env = Bindings<TermValue>;
 impl<T> Model for Bindings<T> {
     ghost use Rattle.std.specs.Prelude.{ℕ, List};
     ghost use Rattle.std.specs.Coded.{coded_list, coded_ℕ, coded×};
+    ghost use Rattle.rc_terms.specs.Bindings.{IsIndexOf};
 
     ghost Value = { List (List ℕ × T) };
 
     ghost coded = { coded_list (coded× (coded_list coded_ℕ) T.code) };
 
     ghost view = { λ bindings. bindings.entries.items };
+
+    ghost invariant = { λ bindings. IsIndexOf bindings.newest bindings.entries.items };
 }
 
 impl<T> Bindings<T> {
@@ -33,6 +40,7 @@ impl<T> Bindings<T> {
     {
         Bindings {
             entries: Vec::new(alloc),
+            newest: BTreeMap::new(alloc),
         }
     }
 
@@ -40,13 +48,10 @@ impl<T> Bindings<T> {
     pub fn get(&self, name: &Name) -> Option<&T>
         ensures { option_copied result ≡ binding_of name.now self.now }
     {
-        let mut found = None;
-        for (bound, meaning) in self.entries.as_slice() {
-            if bound.is(name) {
-                found = Some(meaning);
-            }
+        match self.newest.get(name.as_str()) {
+            Some(place) => Some(&self.entries[*place].1),
+            None => None,
         }
-        found
     }
 }
 
@@ -56,7 +61,15 @@ impl<T: Drop> Bindings<T> {
         ensures ok { OnOk result (self.new ≡ self.old ++ (name, meaning) ∷ []) }
         ensures err { OnErr result (self.new ≡ self.old) }
     {
+        let key = name.text()?;
+        let place = self.entries.len();
         self.entries.push((name, meaning))?;
-        Ok(())
+        match self.newest.insert(key, place) {
+            Ok(_) => Ok(()),
+            Err(_) => {
+                self.entries.pop();
+                Err(AllocError)
+            }
+        }
     }
 }

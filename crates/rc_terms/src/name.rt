@@ -1,4 +1,5 @@
 ghost use Rattle.std.specs.Prelude.{◌≡◌, IfOk};
+ghost use Rattle.std.specs.String.{string_bytes};
 ghost use Rattle.rc_terms.specs.Names.{same_name};
 
 use std::alloc::{AllocError, Global};
@@ -39,6 +40,13 @@ impl Name {
         ensures { result.now ≡ self.now }
     {
         self.text.as_str()
+    }
+
+    /// The name's text, as a copy.
+    pub(crate) fn text(&self) -> Result<String, AllocError>
+        ensures { IfOk result (λ text. string_bytes text ≡ self.now) }
+    {
+        self.text.clone()
     }
 
     /// Whether the two are one name.

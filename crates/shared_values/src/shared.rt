@@ -1,4 +1,4 @@
-ghost use Rattle.std.specs.Prelude.{◌≡◌, IfOk, unwrap_or};
+ghost use Rattle.std.specs.Prelude.{◌≡◌, IfOk};
 
 use std::alloc::{AllocError, Global};
 use std::marker::Model;
@@ -42,15 +42,5 @@ impl<T: Drop> Shared<T> {
         Ok(Shared {
             inner: self.inner.clone()?,
         })
-    }
-
-    /// What this became, or one more owner of it where it didn't change.
-    pub fn or_changed(&self, changed: Option<Shared<T>>) -> Result<Shared<T>, AllocError>
-        ensures { IfOk result (λ shared. shared ≡ unwrap_or changed self.now) }
-    {
-        match changed {
-            Some(changed) => Ok(changed),
-            None => self.share(),
-        }
     }
 }
