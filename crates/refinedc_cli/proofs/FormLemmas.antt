@@ -1,5 +1,5 @@
 -- What the tokens of the form have at their places.
-use Rattle.std.proofs.Common.{◌≡◌, ℕ, zero, suc, ◌<◌, ◌^◌, List, [], ◌∷◌, length, map, Bool, Option, Some, None, refl, sym, ap, ◌∙◌, arith, get_or, true, false, ◌&&◌}
+use Rattle.std.proofs.Common.{◌≡◌, ℕ, zero, suc, ◌<◌, ◌^◌, List, [], ◌∷◌, length, map, Bool, Option, Some, None, refl, sym, ap, ◌∙◌, arith, get_or}
 use Rattle.std.specs.Prelude.{IsTrue, MatchOption, codes}
 use Rattle.std.specs.Fmt.{decimal}
 use Rattle.std.proofs.lemmas.Fmt.{decimal_injective}

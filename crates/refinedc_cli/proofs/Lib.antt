@@ -1,5 +1,7 @@
 pub mod AnswerLemmas
 pub mod FormLemmas
+pub mod FormTree
+pub mod FrontEndLemmas
 pub mod ListLemmas
 pub mod OutcomeLemmas
 pub mod RunLemmas

@@ -1,5 +1,5 @@
 -- What the clauses of a run say, from what it comes to.
-use Rattle.std.proofs.Common.{◌≡◌, ◌≢◌, ℕ, zero, ◌+◌, ◌<◌, ◌≤◌, ◌⊎◌, inl, inr, List, [], ◌∷◌, length, Option, Some, None, refl, sym, ap, ◌∙◌, subst, arith}
+use Rattle.std.proofs.Common.{◌≡◌, ◌≢◌, ℕ, zero, ◌<◌, inl, inr, List, [], ◌∷◌, length, Option, Some, None, refl, sym, ap, subst, arith}
 use Rattle.std.specs.Prelude.{◌↔◌, ◌^◌, IfSome}
 use Rattle.std.specs.List.{AllByRecursion}
 use Rattle.c_lexer.specs.TokenLists.{TokenLists}
@@ -19,7 +19,6 @@ use Rattle.std.proofs.lemmas.List.{append-nil}
 use Rattle.rc_text.specs.Sink.{front_appended, WrotePrefix}
 use Rattle.refinedc_cli.specs.declared.command.Command.{Command}
 use Rattle.refinedc_cli.specs.declared.command.Command.TheVariants.{Check}
-use Rattle.refinedc_cli.specs.declared.limit.Limit.{Limit}
 use Rattle.refinedc_cli.specs.declared.outcome.Outcome.{Outcome}
 use Rattle.refinedc_cli.specs.declared.outcome.Outcome.TheVariants as outcomes
 use Rattle.refinedc_cli.specs.declared.rendering.Rendering.{Rendering}
@@ -27,8 +26,9 @@ use Rattle.refinedc_cli.specs.declared.status.Status.{Status}
 use Rattle.refinedc_cli.specs.declared.status.Status.TheVariants.{Accepted, Usage, ReadFault, WriteFault}
 use Rattle.refinedc_cli.specs.Command.{Means, MeanNothing, files_of}
 use Rattle.refinedc_cli.specs.Delivery.{WritesFront, IsDelivered, whole, failed}
-use Rattle.refinedc_cli.specs.Outcome.{HasTokens, IsCheckOutcome, IsOutcome}
-use Rattle.refinedc_cli.specs.Outside.{Files, Stream, Outside, MayHold, Holds, IsQuiet, IsUndisturbed}
+use Rattle.refinedc_cli.specs.FrontEnd.{HasTokens}
+use Rattle.refinedc_cli.specs.Outcome.{IsCheckOutcome, IsOutcome, AreAlike}
+use Rattle.refinedc_cli.specs.Outside.{Files, Stream, Outside, MayHold, Holds, IsQuiet}
 use Rattle.refinedc_cli.specs.Rendering.{rendering}
 use Rattle.refinedc_cli.specs.Run.{ComesTo, found, unread, IsAnswer, usage, outcome, Runs, delivered, no_memory, UnlessNoMemory, DeliversWhatIsTold}
 use Rattle.refinedc_cli.proofs.OutcomeLemmas.{ReadingsAreDetermined, same_check_outcome}
@@ -53,7 +53,7 @@ same_contents holds (name ∷ names) (first ∷ told) (content ∷ contents) tel
     let there : told ≡ contents = same_contents holds names told contents tells.1 may.1 in
     λ i. here i ∷ there i
 
-same_outcome : ReadingsAreDetermined → (command : Command) (contents : List (List ℕ)) (one two : Outcome) → IsOutcome command contents one → IsOutcome command contents two → one ≡ two
+same_outcome : ReadingsAreDetermined → (command : Command) (contents : List (List ℕ)) (one two : Outcome) → IsOutcome command contents one → IsOutcome command contents two → AreAlike one two
 same_outcome law (Check file) [] one two is also = absurd is
 same_outcome law (Check file) (content ∷ []) one two is also = same_check_outcome law content one two is also
 same_outcome law (Check file) (content ∷ second ∷ more) one two is also = absurd is
@@ -94,19 +94,23 @@ written_nothing (Some bytes) text = ap (λ b. Some b) (sym (append-nil bytes))
 module _ (words : List (List ℕ)) (before after : Files) where
   -- where the contents are told and the shelf didn't fail, the answer is that of what they come to
   told_outcome : ReadingsAreDetermined → (command : Command) (contents : List (List ℕ)) (come other : Outcome) → Holds before.holds (files_of command) contents
-      → IsOutcome command contents come → IsQuiet before.faults after.faults → ComesTo command before after other → come ≡ other
+      → IsOutcome command contents come → IsQuiet before.faults after.faults → ComesTo command before after other
+      → IsOutcome command contents other × AreAlike come other
   told_outcome law command contents come other tells is quiet (found read may reads asked same) =
       let all = same_contents before.holds (files_of command) contents read tells may in
-      same_outcome law command read come other (subst (λ (c : List (List ℕ)). IsOutcome command c come) all is) reads
+      let here : IsOutcome command contents other = subst (λ (c : List (List ℕ)). IsOutcome command c other) (sym all) reads in
+      (here, same_outcome law command contents come other is here)
   told_outcome law command contents come other tells is quiet (unread earlier later name files asked rose) = absurd (omega (arith, rises before.faults quiet.0, quiet.1, rose))
 
   told_answer : ReadingsAreDetermined → (command : Command) (contents : List (List ℕ)) (come : Outcome) (answer : Rendering) → Means words command → Holds before.holds (files_of command) contents
-      → IsOutcome command contents come → IsQuiet before.faults after.faults → IsAnswer words before after answer → answer ≡ rendering command come
+      → IsOutcome command contents come → IsQuiet before.faults after.faults → IsAnswer words before after answer
+      → (answered : Outcome) × IsOutcome command contents answered × AreAlike come answered × (answer ≡ rendering command answered)
   told_answer law command contents come answer means tells is quiet (usage none same) = absurd (none command means)
   told_answer law command contents come answer means tells is quiet (outcome other {outcome = other_come} also comes) =
       let same : other ≡ command = same_command words other command also means in
       let here : ComesTo command before after other_come = subst (λ (c : Command). ComesTo c before after other_come) same comes in
-      ap (λ (c : Command). rendering c other_come) same ∙ ap (λ (o : Outcome). rendering command o) (sym (told_outcome law command contents come other_come tells is quiet here))
+      let told = told_outcome law command contents come other_come tells is quiet here in
+      (other_come, told.0, told.1, ap (λ (c : Command). rendering c other_come) same)
 
   answer_usage : (answer : Rendering) → IsAnswer words before after answer → (answer.status ≡ Usage) ↔ MeanNothing words
   answer_usage answer (usage none same) = (λ _. none, λ _. refl)
@@ -148,7 +152,8 @@ module _ (words : List (List ℕ)) (before after : Outside) where
   pub run_told : ReadingsAreDetermined → (status : Status) → Runs words before after status → DeliversWhatIsTold words before after status
   run_told law status (no_memory front err) command contents come means tells is undisturbed = inl refl
   run_told law status (delivered answer is_answer out) command contents come means tells is undisturbed =
-      inr (subst (λ (r : Rendering). IsDelivered r before after status) (told_answer words before.files after.files law command contents come answer means tells is undisturbed.files is_answer) out)
+      let told = told_answer words before.files after.files law command contents come answer means tells is undisturbed.files is_answer in
+      inr (told.0, told.1, told.2, subst (λ (r : Rendering). IsDelivered r before after status) told.3 out)
 
   usage_delivered : (answer : Rendering) (status : Status) → IsAnswer words before.files after.files answer → IsDelivered answer before after status → (status ≡ Usage) ↔ MeanNothing words
   usage_delivered answer status is_answer (whole out err) = answer_usage words before.files after.files answer is_answer

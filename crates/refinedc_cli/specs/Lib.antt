@@ -1,5 +1,6 @@
 pub mod Command
 pub mod Delivery
+pub mod FrontEnd
 pub mod Limit
 pub mod Listing
 pub mod OneLiteral

@@ -9,7 +9,7 @@ use Rattle.refinedc_cli.specs.declared.status.Status.{Status}
 use Rattle.refinedc_cli.specs.declared.status.Status.TheVariants.{NoMemory}
 use Rattle.refinedc_cli.specs.Command.{Means, MeanNothing, files_of}
 use Rattle.refinedc_cli.specs.Delivery.{Puts, WritesFront, IsDelivered}
-use Rattle.refinedc_cli.specs.Outcome.{IsOutcome}
+use Rattle.refinedc_cli.specs.Outcome.{IsOutcome, AreAlike}
 use Rattle.refinedc_cli.specs.Outside.{Files, Outside, WasAskedFor, MayHold, Holds, IsUndisturbed}
 use Rattle.refinedc_cli.specs.Rendering.{rendering, usage_rendering}
 use Rattle.refinedc_cli.specs.Texts.{no_memory_text}
@@ -45,13 +45,15 @@ pub data Runs (words : List (List ℕ)) (before after : Outside) : Status → Ty
 abbrev pub UnlessNoMemory : Status → Type 0 → Type 0
 UnlessNoMemory status P = (status ≡ NoMemory) ⊎ P
 
--- where the shelf tells the contents of the command's files, and neither it nor standard output fails, what the
--- contents come to is delivered, and nothing else is; want of memory aside
+-- where the shelf tells the contents of the command's files, and neither it nor standard output fails, what is
+-- delivered is what the contents come to, or another such outcome that says that the grammar has no tree; want of
+-- memory aside
 abbrev pub DeliversWhatIsTold : List (List ℕ) → Outside → Outside → Status → Type 0
 DeliversWhatIsTold words before after status =
     (command : Command) (contents : List (List ℕ)) (outcome : Outcome) → Means words command
     → Holds before.files.holds (files_of command) contents → IsOutcome command contents outcome
-    → IsUndisturbed before after → UnlessNoMemory status (IsDelivered (rendering command outcome) before after status)
+    → IsUndisturbed before after → UnlessNoMemory status ((answered : Outcome) × IsOutcome command contents answered
+    × AreAlike outcome answered × IsDelivered (rendering command answered) before after status)
 
 -- the shelf is asked for the files of the command, each once and in order, up to one that it fails at or until memory
 -- runs out; and for none where the words mean no command

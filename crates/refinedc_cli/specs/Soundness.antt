@@ -1,5 +1,5 @@
 -- That every run of a file's program is sound (adequacy, RefinedC PLDI 2021, over this project's Caesium).
-use Rattle.std.specs.Prelude.{ℕ, ◌≡◌, List}
+use Rattle.std.specs.Prelude.{ℕ, List}
 use Rattle.std.specs.List.{AllByRecursion}
 use Rattle.c_lexer.specs.TokenLists.{TokenLists}
 use Rattle.caesium_ir.specs.declared.program.Program.{Program}
@@ -10,7 +10,7 @@ use Rattle.thread_steps.specs.Soundness.{AreSound}
 use Rattle.thread_steps.specs.Start.{Start, functions_of}
 use Rattle.refinedc_cli.specs.declared.one_literal.OneLiteral.{OneLiteral}
 use Rattle.refinedc_cli.specs.OneLiteral.{IsOneLiteral, IsSpelledAt, IsProgramOf}
-use Rattle.refinedc_cli.specs.Outcome.{HasTokens}
+use Rattle.refinedc_cli.specs.FrontEnd.{HasTokens}
 
 -- the file is of the one form: its tokens, with their literals, the name of its function, and its program
 pub record IsProgramOfFile (content : List ℕ) (form : OneLiteral) (name : List ℕ) (program : Program) : Type 0 where

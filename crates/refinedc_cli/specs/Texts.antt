@@ -5,12 +5,13 @@ use Rattle.rc_text.specs.declared.place.Place.{Place}
 use Rattle.rc_text.specs.Lines.{text_of}
 use Rattle.c_lexer.specs.declared.fault.LexFaultKind.TheVariants.{BadByte, OpenComment, OpenString, BadNumber}
 use Rattle.c_lexer.specs.declared.fault.LexFaultKind.TheVariants.{Directive}
+use Rattle.c_cursor.specs.Refusals.{left_out_text}
 use Rattle.refinedc_cli.specs.declared.limit.Limit.{Limit}
 use Rattle.refinedc_cli.specs.declared.listing.Certificate.{Certificate}
 use Rattle.refinedc_cli.specs.declared.listing.Certificate.TheVariants.{Trivial}
 use Rattle.refinedc_cli.specs.declared.listing.RuleLine.{RuleLine}
 use Rattle.refinedc_cli.specs.declared.outcome.FileFault.{FileFault}
-use Rattle.refinedc_cli.specs.declared.outcome.FileFault.TheVariants.{Lexical, NotYet}
+use Rattle.refinedc_cli.specs.declared.outcome.FileFault.TheVariants.{Lexical, Syntax, LeftOutForm, NotYet}
 use Rattle.refinedc_cli.specs.declared.outcome.OpenGoal.{OpenGoal}
 use Rattle.refinedc_cli.specs.declared.outcome.OpenGoal.TheVariants.{Unsolved}
 use Rattle.refinedc_cli.specs.Limit.{limit_number, limit_name}
@@ -48,6 +49,8 @@ fault_kind_text (Lexical OpenString) = codes "OpenString"
 fault_kind_text (Lexical BadNumber) = codes "BadNumber"
 fault_kind_text (Lexical (Directive None)) = codes "Directive"
 fault_kind_text (Lexical (Directive (Some name))) = codes "Directive " ++ name
+fault_kind_text Syntax = codes "Syntax"
+fault_kind_text (LeftOutForm form) = codes "Refused " ++ left_out_text form
 fault_kind_text NotYet = codes "NotYet"
 
 -- a file with a fault

@@ -1,30 +1,32 @@
-ghost use Rattle.std.specs.Prelude.{◌≤◌, length, IfOk};
-ghost use Rattle.refinedc_cli.specs.Limit.{limit_number};
+ghost use Rattle.std.specs.Prelude.{◌≡◌, ◌∷◌, [], ◌≤◌, IfOk};
+ghost use Rattle.refinedc_cli.specs.declared.command.Command.TheVariants.{Check};
 ghost use Rattle.refinedc_cli.specs.OneLiteral.{IsReadAs};
-ghost use Rattle.refinedc_cli.specs.Outcome.{IsCheckOutcome, IsVerdict, IsJudgement};
+ghost use Rattle.refinedc_cli.specs.Outcome.{IsVerdict, IsJudgement};
+ghost use Rattle.refinedc_cli.specs.Outside.{files_seen, WasAskedFor};
+ghost use Rattle.refinedc_cli.specs.Run.{ComesTo};
 
-use crate::limit::Limit;
+use crate::front_end::{Source, read_source};
 use crate::listing::literal_lines;
 use crate::one_literal::{NAME, OneLiteral, form_of};
 use crate::outcome::{FileFault, OpenGoal, Outcome};
-use c_lexer::{LexRefusal, Token, lex};
+use c_lexer::Token;
 use caesium_ir::Program;
-use rc_text::{Bytes, NoMemory, Place};
+use rc_text::{NoMemory, Place, Shelf, Text};
 use sqlite_items::Items;
 use std::alloc::Global;
 
-/// What `check` finds in a content that is no longer than a file may be.
-pub fn check_content(alloc: Global, content: &Bytes) -> Result<Outcome, NoMemory>
-    requires { length content.now ≤ limit_number Limit.FileBytes }
-    ensures { IfOk result (IsCheckOutcome content.now) }
+/// What `check` comes to on the file of a name.
+pub fn check<H: Shelf>(alloc: Global, file: &Text, shelf: &mut H) -> Result<Outcome, NoMemory>
+    ensures outcome { IfOk result (ComesTo (Check file.now)
+        (files_seen (H.holds shelf.old) (H.asked shelf.old) (H.faults shelf.old))
+        (files_seen (H.holds shelf.new) (H.asked shelf.new) (H.faults shelf.new))) }
+    ensures asked { WasAskedFor (H.asked shelf.old) (H.asked shelf.new) (file.now ∷ []) }
+    ensures holds { H.holds shelf.new ≡ H.holds shelf.old }
+    ensures rising { H.faults shelf.old ≤ H.faults shelf.new }
 {
-    match lex(alloc, content) {
-        Ok(tokens) => check_tokens(alloc, tokens.as_slice()),
-        Err(LexRefusal::Fault(fault)) => {
-            Ok(Outcome::Faulty(fault.place, FileFault::Lexical(fault.kind)))
-        }
-        Err(LexRefusal::TokenLimit) => Ok(Outcome::Passed(Limit::Tokens)),
-        Err(LexRefusal::NoMemory) => Err(NoMemory),
+    match read_source(alloc, file, shelf)? {
+        Source::File { tokens, .. } => check_tokens(alloc, tokens.as_slice()),
+        Source::NoFile(outcome) => Ok(outcome),
     }
 }
 

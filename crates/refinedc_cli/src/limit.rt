@@ -1,6 +1,7 @@
 ghost use Rattle.std.specs.Prelude.{◌≡◌};
 ghost use Rattle.refinedc_cli.specs.Limit.{limit_number, limit_name};
 
+use c_cursor::DEPTH_LIMIT;
 use c_lexer::TOKEN_LIMIT;
 
 /// What there is a limit to. `number` and `name` are the only places where a limit is written down.
@@ -10,6 +11,8 @@ pub enum Limit {
     FileBytes,
     /// The tokens of a file.
     Tokens,
+    /// How many statements, expressions and types of a file lie in one another.
+    Depth,
 }
 
 impl Limit {
@@ -20,6 +23,7 @@ impl Limit {
         match self {
             Limit::FileBytes => 1048576,
             Limit::Tokens => TOKEN_LIMIT as u32,
+            Limit::Depth => DEPTH_LIMIT as u32,
         }
     }
 
@@ -30,6 +34,7 @@ impl Limit {
         match self {
             Limit::FileBytes => "file bytes",
             Limit::Tokens => "tokens",
+            Limit::Depth => "depth",
         }
     }
 }

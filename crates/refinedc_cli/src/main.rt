@@ -12,6 +12,7 @@ mod answer;
 mod check;
 mod command;
 mod delivery;
+mod front_end;
 mod limit;
 mod listing;
 mod one_literal;

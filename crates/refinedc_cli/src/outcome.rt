@@ -1,6 +1,7 @@
 use crate::limit::Limit;
 use crate::listing::RuleLine;
 use c_lexer::LexFaultKind;
+use c_parser::LeftOut;
 use rc_text::{Place, Text};
 use sqlite_items::Items;
 
@@ -31,6 +32,10 @@ pub enum OpenGoal {
 pub enum FileFault {
     /// No token begins at the place.
     Lexical(LexFaultKind),
+    /// The grammar has nothing that goes on at the place.
+    Syntax,
+    /// A form begins at the place that the profile leaves out by name.
+    LeftOutForm(LeftOut),
     /// The file has no fault, and isn't of the form that this version checks.
     NotYet,
 }

@@ -1,4 +1,5 @@
 ghost use Rattle.std.specs.Prelude.{◌≡◌, ◌++◌, ◌∷◌, [], map, IfOk, codes};
+ghost use Rattle.c_cursor.specs.Refusals.{left_out_text};
 ghost use Rattle.refinedc_cli.specs.Texts.{line_text, listing_text, place_text, goal_text, refused_text};
 ghost use Rattle.refinedc_cli.specs.Texts.{fault_kind_text, fault_text, read_fault_text, limit_text};
 
@@ -6,6 +7,7 @@ use crate::limit::Limit;
 use crate::listing::{Certificate, RuleLine};
 use crate::outcome::{FileFault, OpenGoal};
 use c_lexer::LexFaultKind;
+use c_parser::LeftOut;
 use rc_text::{Bytes, NoMemory, Place, Text, joined_lines};
 use std::alloc::Global;
 
@@ -121,6 +123,8 @@ fn append_fault_kind(text: &mut Bytes, fault: &FileFault) -> Result<(), NoMemory
         FileFault::Lexical(LexFaultKind::BadNumber) => text.append(b"BadNumber"),
         FileFault::Lexical(LexFaultKind::Directive(None)) => text.append(b"Directive"),
         FileFault::Lexical(LexFaultKind::Directive(Some(word))) => append_directive(text, word),
+        FileFault::Syntax => text.append(b"Syntax"),
+        FileFault::LeftOutForm(form) => append_left_out(text, *form),
         FileFault::NotYet => text.append(b"NotYet"),
     }
 }
@@ -130,6 +134,13 @@ fn append_directive(text: &mut Bytes, word: &Bytes) -> Result<(), NoMemory>
 {
     text.append(b"Directive ")?;
     text.append(word.as_slice())
+}
+
+fn append_left_out(text: &mut Bytes, form: LeftOut) -> Result<(), NoMemory>
+    ensures { IfOk result (λ _. text.new ≡ text.old ++ (codes "Refused " ++ left_out_text form)) }
+{
+    text.append(b"Refused ")?;
+    text.append(form.text().as_bytes())
 }
 
 /// On standard error for a file that can't be opened or read.

@@ -1,4 +1,3 @@
-use Rattle.std.proofs.Common.{refl}
 use Rattle.refinedc_cli.specs.Outside.{stream_seen}
 use Rattle.refinedc_cli.specs.Run.{delivered, no_memory}
 use Rattle.refinedc_cli.proofs.RunLemmas.{run_told, run_usage, run_write_fault, run_write_cause, run_read_fault, run_read_cause, nothing_written, run_headline}
