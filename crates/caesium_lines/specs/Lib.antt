@@ -1,0 +1,5 @@
+pub mod End
+pub mod Layout
+pub mod Line
+pub mod Operation
+pub mod Words
