@@ -12,6 +12,7 @@ mod NamesRead
 mod RecordsRead
 mod StatementDepths
 mod Keywords
+mod OpenIfs
 mod StatementsRead
 mod FilesRead
 mod Unique

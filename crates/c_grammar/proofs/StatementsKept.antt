@@ -18,7 +18,7 @@ use Rattle.c_grammar.proofs.Keywords.{worded}
 use Rattle.c_grammar.proofs.Kept.{Extends, through, nothing, under-kept, next-kept, mark-kept, attributes-kept, expression-kept}
 use Rattle.c_grammar.proofs.DeclarationsKept.{local-kept}
 use Rattle.c_grammar.proofs.Sound.{nested-sound}
-use Rattle.c_grammar.proofs.StatementsSound.{tested-sound, optional-sound, begun-sound, kind_at-sound, statement-sound, children-sound, cases-sound, switch-sound}
+use Rattle.c_grammar.proofs.StatementsSound.{tested-sound, optional-sound, begun-sound, kind_at-related, statement-sound, children-sound, cases-sound, switch-sound}
 
 pub keyword-kept : (w : Keyword) (from to : Input) → keyword w from ≡ Some to → Extends from to
 keyword-kept w from to e =
@@ -54,8 +54,8 @@ mutual
   kind-kept (grammar.Kind.compound {from = from} {to = to} a b) = under-kept from to
   kind-kept (grammar.Kind.expression {behind = behind} {to = to} e m) = through (expression-kept e) (mark-kept _ behind to m)
   kind-kept (grammar.Kind.empty {from = from} {to = to} m) = mark-kept _ from to m
-  kind-kept (grammar.Kind.if_ {from = from} {to = to} a b c d) = under-kept from to
-  kind-kept (grammar.Kind.if_else {from = from} {to = to} a b c d e) = under-kept from to
+  kind-kept (grammar.Kind.if_ {from = from} {to = to} a b c) = under-kept from to
+  kind-kept (grammar.Kind.if_else {from = from} {to = to} a b c d e f) = under-kept from to
   kind-kept (grammar.Kind.switch {from = from} {to = to} a b c) = under-kept from to
   kind-kept (grammar.Kind.while {from = from} {to = to} a b c) = under-kept from to
   kind-kept (grammar.Kind.do_ {from = from} {to = to} a b c d e) = under-kept from to
@@ -104,32 +104,32 @@ module _ (limit deep : ℕ) where
   pub read_kind-kept : (room : ℕ) (position : Position) (from : Input) (kind : StmtKind) (to : Input)
       → kind_at (nested limit deep).expression room position from ≡ Some (kind, to) → Extends from to
   read_kind-kept room position from kind to e =
-      kind-kept (kind_at-sound limit (nested limit deep).expression (nested-sound limit deep).expressions room position from kind to e)
+      kind-kept (kind_at-related limit (nested limit deep).expression (nested-sound limit deep).expressions room position from kind to e).is
 
   pub read_statement-kept : (room : ℕ) (position : Position) (from : Input) (tree : Stmt) (to : Input)
       → statements.statement (nested limit deep).expression (kind_at (nested limit deep).expression room) position from
       ≡ Some (tree, to) → Extends from to
   read_statement-kept room position from tree to e = statement-kept (statement-sound limit (nested limit deep).expression
       (nested-sound limit deep).expressions (kind_at (nested limit deep).expression room)
-      (kind_at-sound limit (nested limit deep).expression (nested-sound limit deep).expressions room) position from tree to e)
+      (kind_at-related limit (nested limit deep).expression (nested-sound limit deep).expressions room) position from tree to e)
 
   pub read_children-kept : (room : ℕ) (position : Position) (left : ℕ) (from : Input) (list : List Stmt) (to : Input)
       → statements.children_from (nested limit deep).expression (kind_at (nested limit deep).expression room) position left from
       ≡ Some (list, to) → Extends from to
   read_children-kept room position left from list to e = children-kept (children-sound limit (nested limit deep).expression
       (nested-sound limit deep).expressions (kind_at (nested limit deep).expression room)
-      (kind_at-sound limit (nested limit deep).expression (nested-sound limit deep).expressions room) position left from list to e)
+      (kind_at-related limit (nested limit deep).expression (nested-sound limit deep).expressions room) position left from list to e)
 
   pub read_cases-kept : (room : ℕ) (position : Position) (left : ℕ) (from : Input) (list : List Stmt) (to : Input)
       → statements.cases_from (nested limit deep).expression (kind_at (nested limit deep).expression room) position left from
       ≡ Some (list, to) → Extends from to
   read_cases-kept room position left from list to e = cases-kept (cases-sound limit (nested limit deep).expression
       (nested-sound limit deep).expressions (kind_at (nested limit deep).expression room)
-      (kind_at-sound limit (nested limit deep).expression (nested-sound limit deep).expressions room) position left from list to e)
+      (kind_at-related limit (nested limit deep).expression (nested-sound limit deep).expressions room) position left from list to e)
 
   pub read_switch-kept : (room : ℕ) (position : Position) (from : Input) (tree : Stmt) (to : Input)
       → statements.switch_body (nested limit deep).expression (kind_at (nested limit deep).expression room) position from
       ≡ Some (tree, to) → Extends from to
   read_switch-kept room position from tree to e = switch-kept (switch-sound limit (nested limit deep).expression
       (nested-sound limit deep).expressions (kind_at (nested limit deep).expression room)
-      (kind_at-sound limit (nested limit deep).expression (nested-sound limit deep).expressions room) position from tree to e)
+      (kind_at-related limit (nested limit deep).expression (nested-sound limit deep).expressions room) position from tree to e)

@@ -1,6 +1,7 @@
 -- Statements that the grammar relates are what is read.
 use denote.Enum.Bare.{sameb}
-use Rattle.std.proofs.Common.{◌≡◌, ℕ, zero, suc, ◌≤◌, ◌<◌, true, false, List, [], ◌∷◌, map, Option, Some, None, refl, ◌∙◌, arith}
+use Rattle.std.proofs.Common.{◌≡◌, ℕ, zero, suc, ◌≤◌, ◌<◌, true, false, List, [], ◌∷◌, map, Option, Some, None, sym, refl, ◌∙◌, arith}
+use Rattle.std.proofs.lemmas.Bool.{false≢true}
 use Rattle.std.specs.Option.{option_map_or}
 use Rattle.rc_text.specs.declared.place.Place.{Place}
 use Rattle.c_lexer.specs.declared.keyword.Keyword.{Keyword}
@@ -33,7 +34,7 @@ use Rattle.c_grammar.specs.Expressions.{Expression}
 use Rattle.c_grammar.specs.Declarations as declarations
 use Rattle.c_grammar.specs.Declarations.{LocalDeclaration, under}
 use Rattle.c_grammar.specs.Statements as grammar
-use Rattle.c_grammar.specs.Statements.{keyword, place_of, Position, in_loop, in_switch, Labels, Tested, Optional, Begun, Statement, Kind, Children, DeclaredChild, SwitchBody, Cases}
+use Rattle.c_grammar.specs.Statements.{keyword, place_of, Position, in_loop, in_switch, ends_in_if, Labels, Tested, Optional, Begun, Statement, Kind, Children, DeclaredChild, SwitchBody, Cases}
 use Rattle.c_grammar.specs.Reading as reading
 use Rattle.c_grammar.specs.Reading.{turns, begins_type, is_type}
 use Rattle.c_grammar.specs.StatementReading as statements
@@ -46,6 +47,7 @@ use Rattle.c_grammar.proofs.ExpressionsRead.{ends_at, starts_here, no_type_here,
 use Rattle.c_grammar.proofs.DeclarationsRead.{whole, expression-whole}
 use Rattle.c_grammar.proofs.NamesRead.{local-turns, local-read}
 use Rattle.c_grammar.proofs.RecordsRead.{attributes_first, specified_first}
+use Rattle.c_grammar.proofs.OpenIfs.{FreeIf, kind_ends_in_if, open-stated, open-If, open-IfElse, open-While, open-For, none_under, none_inside}
 use Rattle.c_grammar.proofs.StatementDepths.{depth-stated, depth-Compound, depth-Declaration, depth-Expression, depth-If, depth-IfElse, depth-Switch, depth-While, depth-Do, depth-For, depth-Return}
 
 -- ---- what stands first
@@ -62,6 +64,7 @@ pub record Plain (from : Input) : Type 0 where
   pub brace : mark marks.CloseBrace from ≡ None
   pub case : keyword words.Case from ≡ None
   pub default : keyword words.Default from ≡ None
+  pub otherwise : keyword words.Else from ≡ None
 
 plain_mark : (p : Punctuator) (from to : Input) → mark p from ≡ Some to → sameb punctuator.the_type marks.OpenBracket p ≡ false
     → sameb punctuator.the_type marks.CloseBrace p ≡ false → Plain from
@@ -71,16 +74,19 @@ plain_mark p from to m a b = record {
   brace = other_mark p marks.CloseBrace from to m b;
   case = no_keyword_at_mark words.Case p from to m;
   default = no_keyword_at_mark words.Default p from to m;
+  otherwise = no_keyword_at_mark words.Else p from to m;
 }
 
 plain_keyword : (w : Keyword) (from to : Input) → keyword w from ≡ Some to → is_type (type_keyword w) ≡ false
-    → sameb keyword_type.the_type words.Case w ≡ false → sameb keyword_type.the_type words.Default w ≡ false → Plain from
-plain_keyword w from to m none a b = record {
+    → sameb keyword_type.the_type words.Case w ≡ false → sameb keyword_type.the_type words.Default w ≡ false
+    → sameb keyword_type.the_type words.Else w ≡ false → Plain from
+plain_keyword w from to m none a b c = record {
   type = no_type_at_keyword w from to m none;
   bracket = no_mark_at_keyword marks.OpenBracket w from to m;
   brace = no_mark_at_keyword marks.CloseBrace w from to m;
   case = other_keyword w words.Case from to m a;
   default = other_keyword w words.Default from to m b;
+  otherwise = other_keyword w words.Else from to m c;
 }
 
 plain_expression : {level : ℕ} {from : Input} {tree : Expr} {to : Input} → Expression level from tree to → Plain from
@@ -90,21 +96,22 @@ plain_expression e = record {
   brace = no_mark_here marks.CloseBrace refl e;
   case = no_keyword_here words.Case (λ meaning text. refl) e;
   default = no_keyword_here words.Default (λ meaning text. refl) e;
+  otherwise = no_keyword_here words.Else (λ meaning text. refl) e;
 }
 
 pub kind_first : {position : Position} {from : Input} {kind : StmtKind} {to : Input} → Kind position from kind to → Plain from
 kind_first (grammar.Kind.compound {from = from} {inner = inner} m c) = plain_mark _ from inner m refl refl
 kind_first (grammar.Kind.expression e m) = plain_expression e
 kind_first (grammar.Kind.empty {from = from} {to = to} m) = plain_mark _ from to m refl refl
-kind_first (grammar.Kind.if_ {from = from} {open_ = outer} k t s n) = plain_keyword _ from outer k refl refl refl
-kind_first (grammar.Kind.if_else {from = from} {open_ = outer} k t s n o) = plain_keyword _ from outer k refl refl refl
-kind_first (grammar.Kind.switch {from = from} {open_ = outer} k t s) = plain_keyword _ from outer k refl refl refl
-kind_first (grammar.Kind.while {from = from} {open_ = outer} k t s) = plain_keyword _ from outer k refl refl refl
-kind_first (grammar.Kind.do_ {from = from} {inner = inner} k s w t m) = plain_keyword _ from inner k refl refl refl
-kind_first (grammar.Kind.for {from = from} {open_ = outer} k a b c d e f s) = plain_keyword _ from outer k refl refl refl
-kind_first (grammar.Kind.continue {from = from} {behind = behind} p k m) = plain_keyword _ from behind k refl refl refl
-kind_first (grammar.Kind.break {from = from} {behind = behind} p k m) = plain_keyword _ from behind k refl refl refl
-kind_first (grammar.Kind.return {from = from} {inner = inner} k v m) = plain_keyword _ from inner k refl refl refl
+kind_first (grammar.Kind.if_ {from = from} {open_ = outer} k t s) = plain_keyword _ from outer k refl refl refl refl
+kind_first (grammar.Kind.if_else {from = from} {open_ = outer} k t s f n o) = plain_keyword _ from outer k refl refl refl refl
+kind_first (grammar.Kind.switch {from = from} {open_ = outer} k t s) = plain_keyword _ from outer k refl refl refl refl
+kind_first (grammar.Kind.while {from = from} {open_ = outer} k t s) = plain_keyword _ from outer k refl refl refl refl
+kind_first (grammar.Kind.do_ {from = from} {inner = inner} k s w t m) = plain_keyword _ from inner k refl refl refl refl
+kind_first (grammar.Kind.for {from = from} {open_ = outer} k a b c d e f s) = plain_keyword _ from outer k refl refl refl refl
+kind_first (grammar.Kind.continue {from = from} {behind = behind} p k m) = plain_keyword _ from behind k refl refl refl refl
+kind_first (grammar.Kind.break {from = from} {behind = behind} p k m) = plain_keyword _ from behind k refl refl refl refl
+kind_first (grammar.Kind.return {from = from} {inner = inner} k v m) = plain_keyword _ from inner k refl refl refl refl
 
 local_here : {from : Input} {tree : Declaration} {to : Input} → LocalDeclaration from tree to
     → (begins_type from ≡ true) × (mark marks.OpenBracket from ≡ None) × (mark marks.CloseBrace from ≡ None)
@@ -121,17 +128,19 @@ attributes_no_keyword : {from : Input} {list : List Attribute} {to : Input} (w :
 attributes_no_keyword w attributes.Attributes.none none = none
 attributes_no_keyword w (attributes.Attributes.more {from = from} {outer = outer} a b group others) none = no_keyword_at_mark w _ from outer a
 
--- a child of a compound begins with no label and no closing brace
+-- a child of a compound begins with no label, no `else` and no closing brace
 pub record BeginsChild (from : Input) : Type 0 where
   pub brace : mark marks.CloseBrace from ≡ None
   pub case : keyword words.Case from ≡ None
   pub default : keyword words.Default from ≡ None
+  pub otherwise : keyword words.Else from ≡ None
 
 statement_first : {position : Position} {from : Input} {tree : Stmt} {to : Input} → Statement position from tree to → BeginsChild from
 statement_first (grammar.Statement.statement a p k) = let f = kind_first k in record {
   brace = attributes_first marks.CloseBrace refl a f.brace;
   case = attributes_no_keyword words.Case a f.case;
   default = attributes_no_keyword words.Default a f.default;
+  otherwise = attributes_no_keyword words.Else a f.otherwise;
 }
 
 declared_first : {from : Input} {tree : Stmt} {to : Input} → DeclaredChild from tree to → BeginsChild from
@@ -139,6 +148,7 @@ declared_first (grammar.DeclaredChild.declared {behind = behind} a p d) = let h 
   brace = attributes_first marks.CloseBrace refl a h.2;
   case = attributes_no_keyword words.Case a (no_keyword_at_type words.Case behind h.0 refl);
   default = attributes_no_keyword words.Default a (no_keyword_at_type words.Default behind h.0 refl);
+  otherwise = attributes_no_keyword words.Else a (no_keyword_at_type words.Else behind h.0 refl);
 }
 
 no_label : (from : Input) → keyword words.Case from ≡ None → keyword words.Default from ≡ None → begins_label from ≡ false
@@ -153,6 +163,24 @@ label_first (grammar.Labels.default {from = from} {colon = colon} p k c) =
 label_first (grammar.Labels.more_case {from = from} {inner = inner} p k e c others) = (rw k refl, no_mark_at_keyword marks.CloseBrace _ from inner k)
 label_first (grammar.Labels.more_default {from = from} {colon = colon} p k c others) =
     (rw (other_keyword _ words.Case from colon k refl, k) refl, no_mark_at_keyword marks.CloseBrace _ from colon k)
+
+-- no `else` begins labels, nor what stands behind a child
+labels_no_else : {from : Input} {list : List Label} {to : Input} → Labels from list to → keyword words.Else from ≡ None
+labels_no_else (grammar.Labels.case {from = from} {inner = inner} p k e c) = other_keyword _ words.Else from inner k refl
+labels_no_else (grammar.Labels.default {from = from} {colon = colon} p k c) = other_keyword _ words.Else from colon k refl
+labels_no_else (grammar.Labels.more_case {from = from} {inner = inner} p k e c others) = other_keyword _ words.Else from inner k refl
+labels_no_else (grammar.Labels.more_default {from = from} {colon = colon} p k c others) = other_keyword _ words.Else from colon k refl
+
+children_no_else : {position : Position} {from : Input} {list : List Stmt} {to : Input} → Children position from list to → keyword words.Else from ≡ None
+children_no_else (grammar.Children.no_child {from = from} {to = to} m) = no_keyword_at_mark words.Else _ from to m
+children_no_else (grammar.Children.declared_child d others) = (declared_first d).otherwise
+children_no_else (grammar.Children.stated_child s others) = (statement_first s).otherwise
+
+cases_no_else : {position : Position} {from : Input} {list : List Stmt} {to : Input} → Cases position from list to → keyword words.Else from ≡ None
+cases_no_else (grammar.Cases.no_case {from = from} {to = to} m) = no_keyword_at_mark words.Else _ from to m
+cases_no_else (grammar.Cases.labelled_case l a p k others) = labels_no_else l
+cases_no_else (grammar.Cases.declared_case d others) = (declared_first d).otherwise
+cases_no_else (grammar.Cases.stated_case s others) = (statement_first s).otherwise
 
 -- ---- something is left behind
 
@@ -186,8 +214,8 @@ mutual
   kind-turns (grammar.Kind.compound {from = from} {inner = inner} m c) = omega (arith, mark-turns _ from inner m, children-turns c)
   kind-turns (grammar.Kind.expression {behind = behind} {to = to} e m) = omega (arith, expression-turns e, mark-turns _ behind to m)
   kind-turns (grammar.Kind.empty {from = from} {to = to} m) = omega (arith, mark-turns _ from to m)
-  kind-turns (grammar.Kind.if_ {from = from} {open_ = outer} k t s n) = omega (arith, keyword-turns _ from outer k, tested-turns t, statement-turns s)
-  kind-turns (grammar.Kind.if_else {from = from} {open_ = outer} {inner = inner} {behind = behind} {other = other} k t s n o) =
+  kind-turns (grammar.Kind.if_ {from = from} {open_ = outer} k t s) = omega (arith, keyword-turns _ from outer k, tested-turns t, statement-turns s)
+  kind-turns (grammar.Kind.if_else {from = from} {open_ = outer} {inner = inner} {behind = behind} {other = other} k t s f n o) =
       omega (arith, keyword-turns _ from outer k, tested-turns t, statement-turns s, keyword-turns _ (under inner behind) other n, statement-turns o)
   kind-turns (grammar.Kind.switch {from = from} {open_ = outer} k t s) = omega (arith, keyword-turns _ from outer k, tested-turns t, switch-turns s)
   kind-turns (grammar.Kind.while {from = from} {open_ = outer} k t s) = omega (arith, keyword-turns _ from outer k, tested-turns t, statement-turns s)
@@ -549,63 +577,72 @@ module _ (limit : ℕ) where
 
   mutual
     pub kind-read : {position : Position} {from : Input} {kind : StmtKind} {to : Input} → Kind position from kind to → (room : ℕ)
-        → kind_depth kind ≤ suc room → kind_depth kind ≤ limit → kind_at (whole limit) (suc room) position from ≡ Some (kind, to)
-    kind-read {position} (grammar.Kind.compound {from = from} {inner = start} {children = list} {to = to} m c) room deep within =
+        → kind_depth kind ≤ suc room → kind_depth kind ≤ limit → FreeIf (kind_ends_in_if kind) to
+        → kind_at (whole limit) (suc room) position from ≡ Some (kind, to)
+    kind-read {position} (grammar.Kind.compound {from = from} {inner = start} {children = list} {to = to} m c) room deep within free =
         let d = depth-Compound list in
         next_kind room position from ∙ compound-is (kind_at (whole limit) room) position from start list to m
         (children-read c room (turns start) (omega arith) (omega (arith, d, deep)) (omega (arith, d, within)))
-    kind-read {position} (grammar.Kind.expression {from = from} {tree = tree} e m) room deep within =
+    kind-read {position} (grammar.Kind.expression {from = from} {tree = tree} e m) room deep within free =
         next_kind room position from ∙ expression-is (kind_at (whole limit) room) position e (omega (arith, depth-Expression tree, within)) m
-    kind-read {position} (grammar.Kind.empty {from = from} {to = to} m) room deep within =
+    kind-read {position} (grammar.Kind.empty {from = from} {to = to} m) room deep within free =
         next_kind room position from ∙ empty-is (kind_at (whole limit) room) position from to m
-    kind-read {position} (grammar.Kind.if_ {from = from} {open_ = outer} {test = test} {inner = start} {then_ = one} {to = to} k t s n) room deep within =
+    kind-read {position} (grammar.Kind.if_ {from = from} {open_ = outer} {test = test} {inner = start} {then_ = one} {to = to} k t s) room deep within free =
         let d = depth-If test one in
+        let none = none_inside words.Else from to (free (open-If test one)) in
         next_kind room position from ∙ if-is (kind_at (whole limit) room) position from outer test start one to k
-        (tested-read t (omega (arith, d, within))) (statement-read s room (omega (arith, d, deep)) (omega (arith, d, within))) n
-    kind-read {position} (grammar.Kind.if_else {from = from} {open_ = outer} {test = test} {inner = start} {then_ = one} {behind = rest} {other = other} {otherwise = two} {to = to} k t s n o)
-        room deep within =
+        (tested-read t (omega (arith, d, within))) (statement-read s room (omega (arith, d, deep)) (omega (arith, d, within)) (λ _. none))
+        (none_under words.Else start to none)
+    kind-read {position} (grammar.Kind.if_else {from = from} {open_ = outer} {test = test} {inner = start} {then_ = one} {behind = rest} {other = other} {otherwise = two} {to = to} k t s f n o)
+        room deep within free =
         let d = depth-IfElse test one two in
         next_kind room position from ∙ if_else-is (kind_at (whole limit) room) position from outer test start one rest other two to k
-        (tested-read t (omega (arith, d, within))) (statement-read s room (omega (arith, d, deep)) (omega (arith, d, within))) n
-        (statement-read o room (omega (arith, d, deep)) (omega (arith, d, within)))
-    kind-read {position} (grammar.Kind.switch {from = from} {open_ = outer} {value = value} {inner = start} {body = body} {to = to} k t s) room deep within =
+        (tested-read t (omega (arith, d, within)))
+        (statement-read s room (omega (arith, d, deep)) (omega (arith, d, within)) (λ ends. absurd (false≢true (sym f ∙ ends)))) n
+        (statement-read o room (omega (arith, d, deep)) (omega (arith, d, within))
+        (λ ends. none_inside words.Else from to (free (open-IfElse test one two ∙ ends))))
+    kind-read {position} (grammar.Kind.switch {from = from} {open_ = outer} {value = value} {inner = start} {body = body} {to = to} k t s) room deep within free =
         let d = depth-Switch value body in
         next_kind room position from ∙ switch_kind-is (kind_at (whole limit) room) position from outer value start body to k
         (tested-read t (omega (arith, d, within))) (switch-read s room (omega (arith, d, deep)) (omega (arith, d, within)))
-    kind-read {position} (grammar.Kind.while {from = from} {open_ = outer} {test = test} {inner = start} {body = body} {to = to} k t s) room deep within =
+    kind-read {position} (grammar.Kind.while {from = from} {open_ = outer} {test = test} {inner = start} {body = body} {to = to} k t s) room deep within free =
         let d = depth-While test body in
         next_kind room position from ∙ while-is (kind_at (whole limit) room) position from outer test start body to k
-        (tested-read t (omega (arith, d, within))) (statement-read s room (omega (arith, d, deep)) (omega (arith, d, within)))
+        (tested-read t (omega (arith, d, within))) (statement-read s room (omega (arith, d, deep)) (omega (arith, d, within))
+        (λ ends. none_inside words.Else from to (free (open-While test body ∙ ends))))
     kind-read {position} (grammar.Kind.do_ {from = from} {inner = start} {body = body} {behind = rest} {open_ = outer} {test = test} {close = close} {to = to} k s w t m)
-        room deep within =
+        room deep within free =
         let d = depth-Do body test in
         next_kind room position from ∙ do-is (kind_at (whole limit) room) position from start body rest outer test close to k
-        (statement-read s room (omega (arith, d, deep)) (omega (arith, d, within))) w (tested-read t (omega (arith, d, within))) m
+        (statement-read s room (omega (arith, d, deep)) (omega (arith, d, within))
+        (λ _. none_inside words.Else start rest (other_keyword _ words.Else (under start rest) outer w refl)))
+        w (tested-read t (omega (arith, d, within))) m
     kind-read {position} (grammar.Kind.for {from = from} {open_ = outer} {inner = start} {init = init} {first = first} {test = test} {second = second} {third = third} {step = step} {close = close} {rest = rest} {body = body} {to = to} k a b c d e f s)
-        room deep within =
+        room deep within free =
         let h = depth-For init test step body in
         next_kind room position from ∙ for-is (kind_at (whole limit) room) position from outer start init first test second third step close rest body to k a
         (begun-read b (omega (arith, h, within)) (omega (arith, h, within)))
         (optional-read marks.Semicolon third c (omega (arith, h, within)) d refl refl refl) d
         (optional-read marks.CloseParenthesis rest e (omega (arith, h, within)) f refl refl refl) f
-        (statement-read s room (omega (arith, h, deep)) (omega (arith, h, within)))
-    kind-read {position} (grammar.Kind.continue {from = from} {behind = rest} {to = to} p k m) room deep within =
+        (statement-read s room (omega (arith, h, deep)) (omega (arith, h, within))
+        (λ ends. none_inside words.Else from to (free (open-For init test step body ∙ ends))))
+    kind-read {position} (grammar.Kind.continue {from = from} {behind = rest} {to = to} p k m) room deep within free =
         next_kind room position from ∙ continue-is (kind_at (whole limit) room) position from rest to p k m
-    kind-read {position} (grammar.Kind.break {from = from} {behind = rest} {to = to} p k m) room deep within =
+    kind-read {position} (grammar.Kind.break {from = from} {behind = rest} {to = to} p k m) room deep within free =
         next_kind room position from ∙ break-is (kind_at (whole limit) room) position from rest to p k m
-    kind-read {position} (grammar.Kind.return {from = from} {inner = start} {value = value} {behind = rest} {to = to} k v m) room deep within =
+    kind-read {position} (grammar.Kind.return {from = from} {inner = start} {value = value} {behind = rest} {to = to} k v m) room deep within free =
         next_kind room position from ∙ return-is (kind_at (whole limit) room) position from start value rest to k
         (optional-read marks.Semicolon to v (omega (arith, depth-Return value, within)) m refl refl refl) m
 
     pub statement-read : {position : Position} {from : Input} {tree : Stmt} {to : Input} → Statement position from tree to → (room : ℕ)
-        → statement_depth tree ≤ room → statement_depth tree ≤ limit
+        → statement_depth tree ≤ room → statement_depth tree ≤ limit → FreeIf (ends_in_if tree) to
         → statements.statement (whole limit) (kind_at (whole limit) room) position from ≡ Some (tree, to)
-    statement-read (grammar.Statement.statement {attributes = list} {place = place} {kind = kind} a p k) zero deep within =
+    statement-read (grammar.Statement.statement {attributes = list} {place = place} {kind = kind} a p k) zero deep within free =
         absurd (omega (arith, deep, depth-stated place [] list kind))
-    statement-read {position} (grammar.Statement.statement {attributes = list} {place = place} {kind = kind} a p k) (suc room) deep within =
+    statement-read {position} (grammar.Statement.statement {attributes = list} {place = place} {kind = kind} a p k) (suc room) deep within free =
         let d = depth-stated place [] list kind in
         statement-is (kind_at (whole limit) (suc room)) position a (kind_first k).bracket p
-        (kind-read k room (omega (arith, d, deep)) (omega (arith, d, within)))
+        (kind-read k room (omega (arith, d, deep)) (omega (arith, d, within)) (λ ends. free (open-stated place [] list kind ∙ ends)))
 
     pub children-read : {position : Position} {from : Input} {list : List Stmt} {to : Input} → Children position from list to → (room left : ℕ)
         → turns from ≤ left → deepest (map statement_depth list) ≤ room → deepest (map statement_depth list) ≤ limit
@@ -621,18 +658,18 @@ module _ (limit : ℕ) where
     children-read (grammar.Children.stated_child s others) room zero h deep within = absurd (omega (arith, h, statement-turns s))
     children-read {position} (grammar.Children.stated_child {from = from} {one = one} {behind = rest} {others = list} {to = to} s others) room (suc left) h deep within =
         more_children (kind_at (whole limit) room) position left from one rest list to (statement_first s).brace
-        (child-read s room (omega (arith, deep)) (omega (arith, within)))
+        (child-read s room (omega (arith, deep)) (omega (arith, within)) (children_no_else others))
         (children-read others room left (omega (arith, h, statement-turns s)) (omega (arith, deep)) (omega (arith, within)))
 
     child-read : {position : Position} {from : Input} {tree : Stmt} {to : Input} → Statement position from tree to → (room : ℕ)
-        → statement_depth tree ≤ room → statement_depth tree ≤ limit
+        → statement_depth tree ≤ room → statement_depth tree ≤ limit → keyword words.Else to ≡ None
         → statements.child (whole limit) (kind_at (whole limit) room) position from ≡ Some (tree, to)
-    child-read (grammar.Statement.statement {attributes = list} {place = place} {kind = kind} a p k) zero deep within =
+    child-read (grammar.Statement.statement {attributes = list} {place = place} {kind = kind} a p k) zero deep within none =
         absurd (omega (arith, deep, depth-stated place [] list kind))
-    child-read {position} (grammar.Statement.statement {attributes = list} {place = place} {kind = kind} a p k) (suc room) deep within =
+    child-read {position} (grammar.Statement.statement {attributes = list} {place = place} {kind = kind} a p k) (suc room) deep within none =
         let d = depth-stated place [] list kind in
         child-is (kind_at (whole limit) (suc room)) position a (kind_first k) p
-        (kind-read k room (omega (arith, d, deep)) (omega (arith, d, within)))
+        (kind-read k room (omega (arith, d, deep)) (omega (arith, d, within)) (λ _. none))
 
     declared-read : {from : Input} {tree : Stmt} {to : Input} → DeclaredChild from tree to → (position : Position) (room : ℕ)
         → statement_depth tree ≤ limit
@@ -665,7 +702,7 @@ module _ (limit : ℕ) where
         let d = depth-stated place labels list kind in
         more_cases (kind_at (whole limit) (suc room)) position left from (stated place labels list kind) rest children to (label_first l).1
         (labelled-is (kind_at (whole limit) (suc room)) position l (omega (arith, d, within)) a (kind_first k) p
-        (kind-read k room (omega (arith, d, deep)) (omega (arith, d, within))))
+        (kind-read k room (omega (arith, d, deep)) (omega (arith, d, within)) (λ _. cases_no_else others)))
         (cases-read others (suc room) left (omega (arith, h, labels-turns l, attributes-turns a, kind-turns k)) (omega (arith, deep)) (omega (arith, within)))
     cases-read (grammar.Cases.declared_case d others) room zero h deep within = absurd (omega (arith, h, declared-turns d))
     cases-read {position} (grammar.Cases.declared_case {from = from} {one = one} {behind = rest} {others = list} {to = to} d others) room (suc left) h deep within =
@@ -675,5 +712,6 @@ module _ (limit : ℕ) where
     cases-read (grammar.Cases.stated_case s others) room zero h deep within = absurd (omega (arith, h, statement-turns s))
     cases-read {position} (grammar.Cases.stated_case {from = from} {one = one} {behind = rest} {others = list} {to = to} s others) room (suc left) h deep within =
         more_cases (kind_at (whole limit) room) position left from one rest list to (statement_first s).brace
-        (unlabelled-is (kind_at (whole limit) room) position (statement_first s) (child-read s room (omega (arith, deep)) (omega (arith, within))))
+        (unlabelled-is (kind_at (whole limit) room) position (statement_first s)
+        (child-read s room (omega (arith, deep)) (omega (arith, within)) (cases_no_else others)))
         (cases-read others room left (omega (arith, h, statement-turns s)) (omega (arith, deep)) (omega (arith, within)))

@@ -14,6 +14,8 @@ use Rattle.c_syntax.specs.declared.stmt.Label.TheVariants as labels
 use Rattle.c_syntax.specs.declared.stmt.Stmt.{Stmt}
 use Rattle.c_syntax.specs.declared.stmt.StmtKind.{StmtKind}
 use Rattle.c_syntax.specs.declared.stmt.StmtKind.TheVariants as kinds
+use Rattle.c_syntax.specs.declared.stmt.StmtKind.TheFolds.{fold-Stmt}
+use Rattle.c_syntax.specs.declared.stmt.StmtKind.TheOpen.{StmtKind-F}
 use Rattle.c_grammar.specs.Marks.{is_keyword}
 use Rattle.c_grammar.specs.Input.{Input, next, taken_if, mark}
 use Rattle.c_grammar.specs.Attributes.{Attributes}
@@ -80,6 +82,18 @@ pub data Begun : Input → ForInit → Input → Type 0 where
       {to : Input} → Attributes from attributes behind → place_of behind ≡ Some place → LocalDeclaration behind tree to
       → Begun from (inits.Declaration place attributes tree) to
 
+-- whether a statement by its production ends in an `if` without an `else`, by whether the statements in it do
+abbrev pub if_step : StmtKind-F Bool Bool → Bool
+if_step (StmtKind-F.If test then) = true
+if_step (StmtKind-F.IfElse test then otherwise) = otherwise
+if_step (StmtKind-F.While test body) = body
+if_step (StmtKind-F.For init test step body) = body
+if_step _ = false
+
+-- whether a statement ends in an `if` without an `else`
+abbrev pub ends_in_if : Stmt → Bool
+ends_in_if = fold-Stmt Bool Bool if_step (λ statement. statement.kind)
+
 mutual
   -- A statement without labels. A statement that selects or repeats is a block, and so is each below it (6.8.4, 6.8.5):
   -- what they declare is in scope in them alone.
@@ -100,14 +114,14 @@ mutual
         → mark marks.Semicolon behind ≡ Some to → Kind position from (kinds.Expression tree) to
     empty : {position : Position} {from to : Input} → mark marks.Semicolon from ≡ Some to
         → Kind position from kinds.Empty to
-    -- selection-statement (6.8.4): an `else` belongs to the nearest `if`, so that none stands behind an `if` without
-    -- one
+    -- selection-statement (6.8.4): an `else` belongs to the nearest `if`, so that what stands before it doesn't end in
+    -- an `if` without one
     if_ : {position : Position} {from open_ : Input} {test : Expr} {inner : Input} {then_ : Stmt} {to : Input}
         → keyword words.If from ≡ Some open_ → Tested open_ test inner → Statement position inner then_ to
-        → keyword words.Else (under inner to) ≡ None → Kind position from (kinds.If test then_) (under from to)
+        → Kind position from (kinds.If test then_) (under from to)
     if_else : {position : Position} {from open_ : Input} {test : Expr} {inner : Input} {then_ : Stmt}
         {behind other : Input} {otherwise : Stmt} {to : Input} → keyword words.If from ≡ Some open_
-        → Tested open_ test inner → Statement position inner then_ behind
+        → Tested open_ test inner → Statement position inner then_ behind → ends_in_if then_ ≡ false
         → keyword words.Else (under inner behind) ≡ Some other → Statement position other otherwise to
         → Kind position from (kinds.IfElse test then_ otherwise) (under from to)
     switch : {position : Position} {from open_ : Input} {value : Expr} {inner : Input} {body : Stmt} {to : Input}
