@@ -29,7 +29,7 @@ type_seen start.Boolean = types.Boolean
 type_seen start.Struct = types.Struct
 type_seen start.Union = types.Union
 type_seen start.Enum = types.Enum
-type_seen (start.Typedef text) = types.Typedef text.now
+type_seen (start.Typedef place text) = types.Typedef (record { place = place; text = text.now })
 type_seen (start.Header type) = types.Header type
 type_seen start.SpecifierWord = types.SpecifierWord
 type_seen start.NoType = types.NoType

@@ -1,6 +1,6 @@
 ghost use Rattle.std.specs.Prelude.{◌≡◌, ◌-◌, suc, length, drop, IfOk};
 ghost use Rattle.std.specs.Option.{is_some};
-ghost use Rattle.c_grammar.specs.Input.{mark, identifier, is_identifier, declares};
+ghost use Rattle.c_grammar.specs.Input.{mark, identifier, is_identifier, declares, name_of};
 ghost use Rattle.c_grammar.specs.Attributes.{string, quoted};
 ghost use Rattle.c_grammar.specs.Marks.{is_mark, is_keyword};
 ghost use Rattle.c_grammar.specs.Names.{word_of};
@@ -236,10 +236,11 @@ impl<'a> Cursor<'a> {
     }
 
     fn type_at(&self, token: &'a Token) -> TypeStart<'a>
-        ensures { type_seen result ≡ type_by token.now.kind (word_of self.now.names token.now) token.now.text }
+        ensures { type_seen result ≡ type_by token.now.kind (word_of self.now.names token.now) (name_of token.now) }
     {
         let text = token.text.as_slice();
-        type_by(token.kind, word_of(&self.names, token.kind, text), text)
+        let word = word_of(&self.names, token.kind, text);
+        type_by(token.kind, word, token.place, text)
     }
 
     /// Whether a type begins at the next token.

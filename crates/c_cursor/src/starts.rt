@@ -13,6 +13,7 @@ use c_lexer::{
     AtomicOperation, CharacterConstant, HeaderType, IntegerConstant, Keyword, Punctuator, TokenKind,
 };
 use c_syntax::{IncrementOperator, UnaryOperator};
+use rc_text::Place;
 
 /// What a token is as a name.
 #[derive(Clone, Copy)]
@@ -32,7 +33,7 @@ pub enum TypeStart<'a> {
     Struct,
     Union,
     Enum,
-    Typedef(&'a [u8]),
+    Typedef { place: Place, text: &'a [u8] },
     Header(HeaderType),
     /// A word of an integer type, or one beside it.
     SpecifierWord,
@@ -99,23 +100,23 @@ fn type_keyword<'a>(word: Keyword) -> TypeStart<'a>
     }
 }
 
-fn type_word(word: Word, text: &[u8]) -> TypeStart<'_>
-    ensures { type_seen result ≡ type_word (word_seen word) text.now }
+fn type_word(word: Word, place: Place, text: &[u8]) -> TypeStart<'_>
+    ensures { type_seen result ≡ type_word (word_seen word) (record { place = place; text = text.now }) }
 {
     match word {
-        Word::TypedefName => TypeStart::Typedef(text),
+        Word::TypedefName => TypeStart::Typedef { place, text },
         Word::HeaderName(named) => TypeStart::Header(named),
         Word::OperationName(_) | Word::OrdinaryName | Word::NoName => TypeStart::NoType,
     }
 }
 
-/// What a token of this kind, which is this as a name, is at the beginning of a type.
-pub fn type_by(kind: TokenKind, word: Word, text: &[u8]) -> TypeStart<'_>
-    ensures { type_seen result ≡ type_by kind (word_seen word) text.now }
+/// What a token of this kind, which means this as a name, is at the beginning of a type.
+pub fn type_by(kind: TokenKind, word: Word, place: Place, text: &[u8]) -> TypeStart<'_>
+    ensures { type_seen result ≡ type_by kind (word_seen word) (record { place = place; text = text.now }) }
 {
     match kind {
         TokenKind::Keyword(keyword) => type_keyword(keyword),
-        _ => type_word(word, text),
+        _ => type_word(word, place, text),
     }
 }
 

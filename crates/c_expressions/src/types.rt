@@ -29,7 +29,7 @@ use c_syntax::{
     AbstractDeclarator, Attribute, EnumDefinition, Enumerator, Expr, Name, RecordKind, TypeName,
     TypeSpecifier,
 };
-use rc_text::Bytes;
+use rc_text::{Bytes, Place};
 use sqlite_items::{Boxed, Items};
 use std::alloc::Global;
 
@@ -206,7 +206,7 @@ impl<
         match start {
             TypeStart::Void => Ok(single_node(TypeSpecifier::Void)),
             TypeStart::Boolean => Ok(single_node(TypeSpecifier::Bool)),
-            TypeStart::Typedef(text) => typedef_name(self.alloc, text),
+            TypeStart::Typedef { place, text } => typedef_name(self.alloc, place, text),
             TypeStart::Header(named) => Ok(single_node(TypeSpecifier::Header(named))),
             TypeStart::Struct => self.record_type(cursor, RecordKind::Struct),
             TypeStart::Union => self.record_type(cursor, RecordKind::Union),
@@ -315,11 +315,15 @@ impl<
 }
 
 #[tactic(auto, using(crate::proofs::TypeDepths::type_depths))]
-fn typedef_name(alloc: Global, text: &[u8]) -> Result<Deep<TypeSpecifier>, ParseRefusal>
-    ensures { KeepsDeep specifier_depth (specifiers.Typedef text.now) result }
+fn typedef_name(
+    alloc: Global,
+    place: Place,
+    text: &[u8],
+) -> Result<Deep<TypeSpecifier>, ParseRefusal>
+    ensures { KeepsDeep specifier_depth (specifiers.Typedef (record { place = place; text = text.now })) result }
 {
     let text = Bytes::from_slice(alloc, text)?;
-    Ok(single_node(TypeSpecifier::Typedef(text)))
+    Ok(single_node(TypeSpecifier::Typedef(Name { place, text })))
 }
 
 /// A type's name with its `*`s and array lengths.

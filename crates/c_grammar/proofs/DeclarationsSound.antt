@@ -275,7 +275,7 @@ module _ (limit : ℕ) (expression : ℕ → Reader Expr) (s : SoundExpressions 
     by-sound types.Void from rest type to b e = plain type from to (single_by-sound limit expression s types.Void from rest type to b e)
     by-sound types.Boolean from rest type to b e = plain type from to (single_by-sound limit expression s types.Boolean from rest type to b e)
     by-sound types.Enum from rest type to b e = plain type from to (single_by-sound limit expression s types.Enum from rest type to b e)
-    by-sound (types.Typedef text) from rest type to b e = plain type from to (single_by-sound limit expression s (types.Typedef text) from rest type to b e)
+    by-sound (types.Typedef name) from rest type to b e = plain type from to (single_by-sound limit expression s (types.Typedef name) from rest type to b e)
     by-sound (types.Header h) from rest type to b e = plain type from to (single_by-sound limit expression s (types.Header h) from rest type to b e)
     by-sound types.SpecifierWord from rest type to b e = absurd (none-some _ e)
     by-sound types.NoType from rest type to b e = absurd (none-some _ e)

@@ -135,8 +135,8 @@ depth-Void = search (rules, the_lemmas)
 pub depth-Bool : specifier_depth specifiers.Bool ≡ 1
 depth-Bool = search (rules, the_lemmas)
 
-pub depth-Typedef : (text : List ℕ) → specifier_depth (specifiers.Typedef text) ≡ 1
-depth-Typedef text = search (rules, the_lemmas)
+pub depth-Typedef : (name : Name) → specifier_depth (specifiers.Typedef name) ≡ 1
+depth-Typedef name = search (rules, the_lemmas)
 
 pub depth-Header : (type : HeaderType) → specifier_depth (specifiers.Header type) ≡ 1
 depth-Header type = search (rules, the_lemmas)

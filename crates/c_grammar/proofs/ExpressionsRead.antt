@@ -286,7 +286,7 @@ type_here (grammar.TypeNamed.type_named s q p l) = specified_here s
 single-deep : {from : Input} {type : TypeSpecifier} {to : Input} → SingleType from type to → 1 ≤ specifier_depth type
 single-deep (grammar.SingleType.void s) = omega (arith, depth-Void)
 single-deep (grammar.SingleType.bool s) = omega (arith, depth-Bool)
-single-deep (grammar.SingleType.typedef {text = text} s) = omega (arith, depth-Typedef text)
+single-deep (grammar.SingleType.typedef {name = name} s) = omega (arith, depth-Typedef name)
 single-deep (grammar.SingleType.header {type = type} s) = omega (arith, depth-Header type)
 single-deep (grammar.SingleType.struct {attributes = attributes} {tag = tag} s a n) = omega (arith, depth-Record records.Struct attributes tag.name)
 single-deep (grammar.SingleType.union {attributes = attributes} {tag = tag} s a n) = omega (arith, depth-Record records.Union attributes tag.name)

@@ -139,7 +139,7 @@ module _ (limit : ℕ) (expression : ℕ → Reader Expr) (s : SoundExpressions 
       rw (← parts.0, ← parts.1) (grammar.SingleType.void b)
   single_by-sound types.Boolean from rest type to b e = let parts = some_pair_parts specifiers.Bool type rest to e in
       rw (← parts.0, ← parts.1) (grammar.SingleType.bool b)
-  single_by-sound (types.Typedef text) from rest type to b e = let parts = some_pair_parts (specifiers.Typedef text) type rest to e in
+  single_by-sound (types.Typedef name) from rest type to b e = let parts = some_pair_parts (specifiers.Typedef name) type rest to e in
       rw (← parts.0, ← parts.1) (grammar.SingleType.typedef b)
   single_by-sound (types.Header h) from rest type to b e = let parts = some_pair_parts (specifiers.Header h) type rest to e in
       rw (← parts.0, ← parts.1) (grammar.SingleType.header b)

@@ -14,7 +14,8 @@ use Rattle.c_grammar.specs.declared.names.NameEntry.{NameEntry}
 use Rattle.c_lexer.specs.declared.keyword.Keyword.TheVariants as words
 use Rattle.c_grammar.specs.Names.{Word, TypedefName, HeaderName, OperationName, OrdinaryName, NoName, word_by as word_by_kind, word_of}
 use Rattle.c_grammar.specs.Marks.{is_mark}
-use Rattle.c_grammar.specs.Input.{Input, Taken, Named, first_of_tokens, next, taken_if, mark, is_identifier, identifier}
+use Rattle.c_syntax.specs.declared.name.Name.{Name}
+use Rattle.c_grammar.specs.Input.{Input, Taken, Named, first_of_tokens, next, taken_if, mark, is_identifier, identifier, name_of}
 use Rattle.c_grammar.specs.Attributes.{ReadText, text_by, string}
 use Rattle.c_grammar.specs.Operators as operators
 use Rattle.c_grammar.specs.Operators.{TakenInfix, Started, infix_by, infix_mark, behind, Start, start_by, start_word, start}
@@ -110,7 +111,7 @@ start-turns from started e =
 pub record BeginsAsType (from : Input) (started : TypeStarted) : Type 0 where
   pub taken : Taken
   pub next : next from ≡ Some taken
-  pub start : type_by taken.token.kind (word_of from.names taken.token) taken.token.text ≡ started.start
+  pub start : type_by taken.token.kind (word_of from.names taken.token) (name_of taken.token) ≡ started.start
   pub rest : taken.rest ≡ started.rest
 
 pub begins_as_type : (from : Input) (started : TypeStarted) → type_start from ≡ Some started → BeginsAsType from started
@@ -309,13 +310,13 @@ no_word_at_identifier test from named e = into _ (next from) named e λ taken is
 
 -- ---- a type begins with no punctuator
 
-type_no_mark : (p : Punctuator) (entries : List NameEntry) (kind : TokenKind) (text : List ℕ)
-    → is_type (type_by kind (word_by_kind entries kind text) text) ≡ true → is_mark p kind ≡ false
-type_no_mark p entries (kinds.Punctuator q) text e = absurd (false≢true e)
-type_no_mark p entries _ text e = refl
+type_no_mark : (p : Punctuator) (entries : List NameEntry) (kind : TokenKind) (name : Name)
+    → is_type (type_by kind (word_by_kind entries kind name.text) name) ≡ true → is_mark p kind ≡ false
+type_no_mark p entries (kinds.Punctuator q) name e = absurd (false≢true e)
+type_no_mark p entries _ name e = refl
 
 pub no_mark_at_type : (p : Punctuator) (from : Input) (started : TypeStarted) → type_start from ≡ Some started → is_type started.start ≡ true
     → mark p from ≡ None
 unfolding mark
 no_mark_at_type p from started e known = let b = begins_as_type from started e in
-    rw (b.next, type_no_mark p from.names b.taken.token.kind b.taken.token.text (ap is_type b.start ∙ known)) refl
+    rw (b.next, type_no_mark p from.names b.taken.token.kind (name_of b.taken.token) (ap is_type b.start ∙ known)) refl

@@ -14,7 +14,8 @@ use Rattle.c_lexer.specs.contracts.keyword.Keyword.{the_type}
 use Rattle.c_syntax.specs.declared.specifier.IntegerType.{IntegerType}
 use Rattle.c_grammar.specs.declared.names.NameEntry.{NameEntry}
 use Rattle.c_grammar.specs.Names.{Word, TypedefName, HeaderName, OperationName, OrdinaryName, NoName, declared_word, meaning_of, word_by, word_of}
-use Rattle.c_grammar.specs.Input.{Input, Taken, next, mark}
+use Rattle.c_syntax.specs.declared.name.Name.{Name}
+use Rattle.c_grammar.specs.Input.{Input, Taken, next, mark, name_of}
 use Rattle.c_grammar.specs.Operators as operators
 use Rattle.c_grammar.specs.Operators.{Start, Started, start, start_by, start_word, start_mark}
 use Rattle.c_grammar.specs.Specifiers as types
@@ -207,28 +208,29 @@ abbrev pub is_start : Start → Bool
 is_start operators.Nothing = false
 is_start _ = true
 
-word_apart : (meaning : Word) (text : List ℕ) → is_start (start_word meaning text) ≡ true → is_type (type_word meaning text) ≡ false
-word_apart OrdinaryName text e = refl
-word_apart (OperationName operation) text e = refl
-word_apart TypedefName text e = absurd (false≢true e)
-word_apart (HeaderName type) text e = absurd (false≢true e)
-word_apart NoName text e = absurd (false≢true e)
+word_apart : (meaning : Word) (name : Name) → is_start (start_word meaning name.text) ≡ true → is_type (type_word meaning name) ≡ false
+word_apart OrdinaryName name e = refl
+word_apart (OperationName operation) name e = refl
+word_apart TypedefName name e = absurd (false≢true e)
+word_apart (HeaderName type) name e = absurd (false≢true e)
+word_apart NoName name e = absurd (false≢true e)
 
-starts_apart : (entries : List NameEntry) (kind : TokenKind) (text : List ℕ) → is_start (start_by kind (word_by entries kind text) text) ≡ true
-    → is_type (type_by kind (word_by entries kind text) text) ≡ false
-starts_apart entries (kinds.Keyword words.Sizeof) text e = refl
-starts_apart entries (kinds.Keyword words.Alignof) text e = refl
-starts_apart entries (kinds.Keyword _) text e = absurd (false≢true e)
-starts_apart entries kinds.Identifier text e = word_apart (declared_word (meaning_of entries text) OrdinaryName) text e
-starts_apart entries (kinds.HeaderType type) text e = word_apart (declared_word (meaning_of entries text) (HeaderName type)) text e
-starts_apart entries (kinds.AtomicOperation operation) text e =
-    word_apart (declared_word (meaning_of entries text) (OperationName operation)) text e
-starts_apart entries _ text e = refl
+starts_apart : (entries : List NameEntry) (kind : TokenKind) (name : Name)
+    → is_start (start_by kind (word_by entries kind name.text) name.text) ≡ true
+    → is_type (type_by kind (word_by entries kind name.text) name) ≡ false
+starts_apart entries (kinds.Keyword words.Sizeof) name e = refl
+starts_apart entries (kinds.Keyword words.Alignof) name e = refl
+starts_apart entries (kinds.Keyword _) name e = absurd (false≢true e)
+starts_apart entries kinds.Identifier name e = word_apart (declared_word (meaning_of entries name.text) OrdinaryName) name e
+starts_apart entries (kinds.HeaderType type) name e = word_apart (declared_word (meaning_of entries name.text) (HeaderName type)) name e
+starts_apart entries (kinds.AtomicOperation operation) name e =
+    word_apart (declared_word (meaning_of entries name.text) (OperationName operation)) name e
+starts_apart entries _ name e = refl
 
 pub no_type_at_start : (from : Input) (started : Started) → start from ≡ Some started → is_start started.start ≡ true → begins_type from ≡ false
 unfolding begins_type type_start
 no_type_at_start from started e known = let b = begins from started e in
-    rw b.next (starts_apart from.names b.taken.token.kind b.taken.token.text (ap is_start b.start ∙ known))
+    rw b.next (starts_apart from.names b.taken.token.kind (name_of b.taken.token) (ap is_start b.start ∙ known))
 
 -- a punctuator that begins no expression
 pub no_mark_at_start : (p : Punctuator) (from : Input) (started : Started) → start from ≡ Some started → is_start started.start ≡ true
@@ -273,22 +275,22 @@ is_single types.SpecifierWord = false
 is_single types.NoType = false
 is_single _ = true
 
-no_specifier_word : (kind : TokenKind) (meaning : Word) (text : List ℕ) (rest : Input) → is_single (type_by kind meaning text) ≡ true
+no_specifier_word : (kind : TokenKind) (meaning : Word) (name : Name) (rest : Input) → is_single (type_by kind meaning name) ≡ true
     → types.word_by is_specifier_word kind rest ≡ None
-no_specifier_word (kinds.Keyword words.Void) meaning text rest e = refl
-no_specifier_word (kinds.Keyword words.Bool) meaning text rest e = refl
-no_specifier_word (kinds.Keyword words.Struct) meaning text rest e = refl
-no_specifier_word (kinds.Keyword words.Union) meaning text rest e = refl
-no_specifier_word (kinds.Keyword words.Enum) meaning text rest e = refl
-no_specifier_word (kinds.Keyword _) meaning text rest e = absurd (false≢true e)
-no_specifier_word _ meaning text rest e = refl
+no_specifier_word (kinds.Keyword words.Void) meaning name rest e = refl
+no_specifier_word (kinds.Keyword words.Bool) meaning name rest e = refl
+no_specifier_word (kinds.Keyword words.Struct) meaning name rest e = refl
+no_specifier_word (kinds.Keyword words.Union) meaning name rest e = refl
+no_specifier_word (kinds.Keyword words.Enum) meaning name rest e = refl
+no_specifier_word (kinds.Keyword _) meaning name rest e = absurd (false≢true e)
+no_specifier_word _ meaning name rest e = refl
 
 -- what begins a single type is no specifier word
 pub no_word_at_single : (from : Input) (started : TypeStarted) → type_start from ≡ Some started → is_single started.start ≡ true
     → word is_specifier_word from ≡ None
 unfolding word
 no_word_at_single from started e known = let b = begins_as_type from started e in
-    rw b.next (no_specifier_word b.taken.token.kind (word_of from.names b.taken.token) b.taken.token.text b.taken.rest
+    rw b.next (no_specifier_word b.taken.token.kind (word_of from.names b.taken.token) (name_of b.taken.token) b.taken.rest
     (ap is_single b.start ∙ known))
 
 -- ---- what is read is related

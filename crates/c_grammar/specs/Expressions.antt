@@ -27,6 +27,7 @@ use Rattle.c_syntax.specs.declared.expr.Expr.{Expr}
 use Rattle.c_syntax.specs.declared.expr.ExprKind.{ExprKind}
 use Rattle.c_syntax.specs.declared.expr.ExprKind.TheVariants as kinds
 use Rattle.c_syntax.specs.declared.expr.TypeName.{TypeName, roll-TypeName}
+use Rattle.c_syntax.specs.declared.name.Name.{Name}
 use Rattle.c_grammar.specs.declared.names.NameKind.TheVariants as names
 use Rattle.c_grammar.specs.Input.{Input, Named, mark, identifier, declares}
 use Rattle.c_grammar.specs.Attributes.{Attributes}
@@ -211,8 +212,8 @@ mutual
     void : {from to : Input} → BeginsType from types.Void to → SingleType from specifiers.Void to
     bool : {from to : Input} → BeginsType from types.Boolean to → SingleType from specifiers.Bool to
     -- typedef-name
-    typedef : {from : Input} {text : List ℕ} {to : Input} → BeginsType from (types.Typedef text) to
-        → SingleType from (specifiers.Typedef text) to
+    typedef : {from : Input} {name : Name} {to : Input} → BeginsType from (types.Typedef name) to
+        → SingleType from (specifiers.Typedef name) to
     header : {from : Input} {type : HeaderType} {to : Input} → BeginsType from (types.Header type) to
         → SingleType from (specifiers.Header type) to
     -- struct-or-union-specifier without members

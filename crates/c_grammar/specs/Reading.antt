@@ -201,7 +201,7 @@ module _ (expression : ℕ → Reader Expr) where
   abbrev pub single_by : TypeStart → Reader TypeSpecifier
   single_by types.Void rest = Some (specifiers.Void, rest)
   single_by types.Boolean rest = Some (specifiers.Bool, rest)
-  single_by (types.Typedef text) rest = Some (specifiers.Typedef text, rest)
+  single_by (types.Typedef name) rest = Some (specifiers.Typedef name, rest)
   single_by (types.Header type) rest = Some (specifiers.Header type, rest)
   single_by types.Struct rest = record_type records.Struct rest
   single_by types.Union rest = record_type records.Union rest

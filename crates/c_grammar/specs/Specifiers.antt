@@ -15,7 +15,8 @@ use Rattle.c_syntax.specs.declared.specifier.IntegerType.{IntegerType}
 use Rattle.c_syntax.specs.declared.specifier.IntegerType.TheVariants as types
 use Rattle.c_lexer.specs.declared.header_type.HeaderType.{HeaderType}
 use Rattle.c_grammar.specs.Names.{Word, TypedefName, HeaderName, word_of}
-use Rattle.c_grammar.specs.Input.{Input, next, mark}
+use Rattle.c_syntax.specs.declared.name.Name.{Name}
+use Rattle.c_grammar.specs.Input.{Input, next, mark, name_of}
 
 -- a word of an integer type
 abbrev pub is_integer_word : Keyword → Bool
@@ -137,7 +138,7 @@ pub data TypeStart : Type 0 where
   Struct : TypeStart
   Union : TypeStart
   Enum : TypeStart
-  Typedef : List ℕ → TypeStart
+  Typedef : Name → TypeStart
   Header : HeaderType → TypeStart
   -- a word of an integer type, or one beside it
   SpecifierWord : TypeStart
@@ -154,15 +155,15 @@ type_keyword words.Enum = Enum
 type_keyword word = if is_specifier_word word then SpecifierWord else NoType
 
 -- what a name is there
-abbrev pub type_word : Word → List ℕ → TypeStart
-type_word TypedefName text = Typedef text
-type_word (HeaderName type) text = Header type
-type_word _ text = NoType
+abbrev pub type_word : Word → Name → TypeStart
+type_word TypedefName name = Typedef name
+type_word (HeaderName type) name = Header type
+type_word _ name = NoType
 
--- what a token of this kind, which is this as a name, is there
-abbrev pub type_by : TokenKind → Word → List ℕ → TypeStart
-type_by (kinds.Keyword word) meaning text = type_keyword word
-type_by _ meaning text = type_word meaning text
+-- what a token of this kind, which means this as a name, is there
+abbrev pub type_by : TokenKind → Word → Name → TypeStart
+type_by (kinds.Keyword word) meaning name = type_keyword word
+type_by _ meaning name = type_word meaning name
 
 -- the first token of a type, and what is left behind it
 pub record TypeStarted : Type 0 where
@@ -172,6 +173,6 @@ pub record TypeStarted : Type 0 where
 -- what the next token is as the first one of a type
 unfoldable pub type_start : Input → Option TypeStarted
 type_start input = option_and_then (λ taken. Some (record {
-  start = type_by taken.token.kind (word_of input.names taken.token) taken.token.text;
+  start = type_by taken.token.kind (word_of input.names taken.token) (name_of taken.token);
   rest = taken.rest;
 })) (next input)

@@ -3,7 +3,6 @@ use crate::declarator::Declarator;
 use crate::expr::Expr;
 use crate::name::Name;
 use c_lexer::HeaderType;
-use rc_text::Bytes;
 use sqlite_items::Items;
 
 /// The integer types that keywords name, in whatever order and number of words (C11 6.7.2). `char` is a
@@ -40,7 +39,7 @@ pub enum TypeSpecifier {
     /// A type that an include gives, by the name that no nearer declaration hides.
     Header(HeaderType),
     /// The name of a typedef in scope.
-    Typedef(Bytes),
+    Typedef(Name),
     /// A struct or union by its tag, with the attributes before the tag.
     Record {
         kind: RecordKind,

@@ -138,7 +138,7 @@ fn show_type(text: &mut Bytes, specifier: &TypeSpecifier, levels: u8) -> Result<
         TypeSpecifier::Header(_) => text.append(b"header"),
         TypeSpecifier::Typedef(name) => {
             text.append(b"named ")?;
-            text.append(name.as_slice())
+            text.append(name.text.as_slice())
         }
         TypeSpecifier::Record {
             kind,
