@@ -29,5 +29,5 @@ pub use left_out::LeftOut;
 pub use names::Names;
 pub use refusal::ParseRefusal;
 pub use starts::{Start, TypeStart, Word, is_type};
-pub use storage::{at_second_storage, at_storage_word, behind_storage_words, is_specifier_word};
+pub use storage::{at_second_storage, at_storage_word, behind_storage_words, words_before};
 pub use type_words::{WordTest, is_integer_word, is_modifier, is_qualifier, pointers, words};

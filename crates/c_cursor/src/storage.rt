@@ -7,17 +7,32 @@ use crate::type_words::{WordTest, is_modifier, is_qualifier};
 use c_lexer::{Keyword, Token, TokenKind};
 use rc_text::Place;
 
+/// The words of a type at the front of tokens, as far as this place.
+pub fn words_before(start: &[Token], place: Place) -> &[Token] {
+    for (count, token) in start.iter().enumerate() {
+        if token.place.byte >= place.byte || !is_specifier_word(token.kind) {
+            return &start[..count];
+        }
+    }
+    start
+}
+
+/// The place of the first of these words.
+fn storage_word(tokens: &[Token]) -> Option<Place> {
+    for token in tokens {
+        if is_storage_word(token.kind) {
+            return Some(token.place);
+        }
+    }
+    None
+}
+
 /// The refusal at the first of these words.
 pub fn at_storage_word(start: &[Token]) -> ParseRefusal
     ensures { IsRefusal result }
 {
-    for token in start {
-        if is_storage_word(token.kind) {
-            return ParseRefusal::Syntax { place: token.place };
-        }
-    }
     ParseRefusal::Syntax {
-        place: Place::START,
+        place: storage_word(start).unwrap_or(Place::START),
     }
 }
 
@@ -29,15 +44,10 @@ pub fn behind_storage_words(
 ) -> ParseRefusal
     ensures { IsRefusal result }
 {
-    for token in start {
-        if token.place.byte >= place.byte || !is_specifier_word(token.kind) {
-            return ParseRefusal::at(place, left_out);
-        }
-        if is_storage_word(token.kind) {
-            return ParseRefusal::Syntax { place: token.place };
-        }
+    match storage_word(words_before(start, place)) {
+        Some(place) => ParseRefusal::Syntax { place },
+        None => ParseRefusal::at(place, left_out),
     }
-    ParseRefusal::at(place, left_out)
 }
 
 /// The refusal at the second word of storage (C11 6.7.1).
@@ -73,7 +83,7 @@ fn is_storage_word(kind: TokenKind) -> bool {
 }
 
 /// Whether it is a word beside a type, or one of an integer type.
-pub fn is_specifier_word(kind: TokenKind) -> bool {
+fn is_specifier_word(kind: TokenKind) -> bool {
     match kind {
         TokenKind::Keyword(word) => WordTest::Specifier.holds(word),
         _ => false,

@@ -3,7 +3,7 @@ ghost use Rattle.c_lexer.specs.declared.punctuator.Punctuator.TheVariants as mar
 ghost use Rattle.c_grammar.specs.Input.{mark};
 ghost use Rattle.c_cursor.specs.Reads.{IsRefusal, Expects};
 
-use c_cursor::{Cursor, LeftOut, ParseRefusal, is_specifier_word};
+use c_cursor::{Cursor, LeftOut, ParseRefusal, words_before};
 use c_lexer::{Keyword, Punctuator, Token, TokenKind};
 use rc_text::Place;
 
@@ -72,17 +72,25 @@ fn file_object(place: Place) -> ParseRefusal
     }
 }
 
+/// The place of the first `static` or `extern`.
+fn file_word(tokens: &[Token]) -> Option<Place> {
+    for token in tokens {
+        if let TokenKind::Keyword(Keyword::Static | Keyword::Extern) = token.kind {
+            return Some(token.place);
+        }
+    }
+    None
+}
+
 /// The refusal at the first `static` or `extern`, which make objects of the whole file.
 pub(crate) fn at_file_word(start: &[Token]) -> ParseRefusal
     ensures { IsRefusal result }
 {
-    for token in start {
-        if is_file_word(token.kind) {
-            return file_object(token.place);
-        }
-    }
-    ParseRefusal::Syntax {
-        place: Place::START,
+    match file_word(start) {
+        Some(place) => file_object(place),
+        None => ParseRefusal::Syntax {
+            place: Place::START,
+        },
     }
 }
 
@@ -94,17 +102,8 @@ pub(crate) fn behind_file_words(
 ) -> ParseRefusal
     ensures { IsRefusal result }
 {
-    for token in start {
-        if token.place.byte >= place.byte || !is_specifier_word(token.kind) {
-            return ParseRefusal::at(place, left_out);
-        }
-        if is_file_word(token.kind) {
-            return file_object(token.place);
-        }
+    match file_word(words_before(start, place)) {
+        Some(place) => file_object(place),
+        None => ParseRefusal::at(place, left_out),
     }
-    ParseRefusal::at(place, left_out)
-}
-
-fn is_file_word(kind: TokenKind) -> bool {
-    matches!(kind, TokenKind::Keyword(Keyword::Static | Keyword::Extern))
 }
