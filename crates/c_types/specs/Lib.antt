@@ -1,0 +1,5 @@
+pub mod Arithmetic
+pub mod CType
+pub mod Constants
+pub mod Conversions
+pub mod Layouts
