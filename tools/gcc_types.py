@@ -1,12 +1,13 @@
 #!/usr/bin/env python3
-"""Writes crates/c_types/src/tests/gcc_answers.rt: what gcc -std=c11 says of promotions, of the usual arithmetic
-conversions, of the types of integer constants, of implicit conversions, of comparisons and of conditionals.
+"""Writes crates/c_types/src/tests/gcc_answers.rt and crates/c_operators/src/tests/gcc_answers.rt: what gcc -std=c11
+says of promotions, of the usual arithmetic conversions, of the types of integer constants, of implicit conversions, of
+comparisons and of conditionals; and which types the operators give.
 
-Run it at the top of the repository, then `rt fmt` in the crate. The first line of the file says which gcc it was.
+Run it at the top of the repository, then `rt fmt` in both crates. The first line of each file says which gcc it was.
 Types of expressions come from _Generic; what may be converted and compared is what -pedantic-errors lets pass. A type
 is spelled as its base with a `*` behind it for a pointer to it, and a `3` for an array of three of it. `0` and `NULL`
 are the null pointer constants. `none` stands where gcc gives no type or refuses. A pointer that becomes a `_Bool`, which
-gcc takes, isn't asked for.
+gcc takes, isn't asked for. Nor are the difference and the order of two pointers, which the profile leaves out: `none`.
 """
 import subprocess
 import sys
@@ -23,6 +24,11 @@ OPERANDS = [
     "int", "ulong", "0", "NULL", "char*", "uchar*", "int*", "uint*", "void*", "int**", "void**", "record0", "record1",
     "record2", "record0*", "record1*", "int3*",
 ]
+OPERATED = ["int", "ulong", "0", "char*", "int*", "void*", "int**", "record0", "int3*"]
+BINARY = {"SUMS": "+", "DIFFERENCES": "-", "PRODUCTS": "*", "REMAINDERS": "%", "SHIFTS": "<<", "UNIONS": "|",
+          "ORDERS": "<", "EQUALITIES": "==", "LOGICAL": "&&"}
+CHANGES = {"ASSIGNED": "=", "ADDED": "+=", "MULTIPLIED": "*=", "SHIFTED": "<<="}
+UNARY = {"SIGNS": "-", "COMPLEMENTS": "~", "NEGATIONS": "!", "POINTED": "*"}
 BASE_NAMES = {"decimal": "", "octal": "0", "hexadecimal": "0x"}
 SUFFIXES = {"plain": "", "u": "u", "l": "l", "ul": "ul", "ll": "ll", "ull": "ull"}
 EDGES = [2**31 - 1, 2**31, 2**32 - 1, 2**32, 2**63 - 1, 2**63, 2**64 - 1, 2**64]
@@ -129,14 +135,41 @@ def main():
     texts["COMPARABLE"] = [" ".join(row) for row in rows(len(OPERANDS), marks)]
     texts["CONDITIONAL"] = [" ".join(r) for r in
                             rows(len(OPERANDS), types_of([f"c ? {operand(i)} : {operand(j)}" for i, j in pairs]))]
-    write(version, texts)
+    write("c_types", version, texts)
+    write("c_operators", version, operators())
 
 
-def write(version, texts):
+def are_pointers(i, j):
+    return all(OPERANDS[k] == "NULL" or OPERANDS[k][-1] == "*" for k in (i, j))
+
+
+def operators():
+    """A line for each left operand, a word for each right one; of one operand, a word for each."""
+    some = [OPERANDS.index(name) for name in OPERATED]
+    pairs = [(i, j) for i in some for j in some]
+    texts = {}
+    for name, sign in BINARY.items():
+        words = types_of([f"{operand(i)} {sign} {operand(j)}" for i, j in pairs])
+        if name in ("DIFFERENCES", "ORDERS"):
+            words = ["none" if are_pointers(*pair) else word for pair, word in zip(pairs, words)]
+        texts[name] = [" ".join(row) for row in rows(len(some), words)]
+    words = types_of([f"{operand(i)}[{operand(j)}]" for i, j in pairs])
+    texts["SUBSCRIPTS"] = [" ".join(row) for row in rows(len(some), words)]
+    places = [i for i in some if OPERANDS[i] in NAMES]
+    for name, sign in CHANGES.items():
+        words = types_of([f"{operand(i)} {sign} {operand(j)}" for i in places for j in some])
+        texts[name] = [" ".join(row) for row in rows(len(some), words)]
+    for name, sign in UNARY.items():
+        texts[name] = [" ".join(types_of([f"{sign}{operand(i)}" for i in some]))]
+    texts["STEPS"] = [" ".join(types_of([f"{operand(i)}++" for i in places]))]
+    return texts
+
+
+def write(crate, version, texts):
     out = [f"// Written by tools/gcc_types.py with {version}; that script says how to read it."]
     for name, lines in texts.items():
         out += ["", f'pub(super) const {name}: &str = "\\'] + lines + ['";']
-    Path("crates/c_types/src/tests/gcc_answers.rt").write_text("\n".join(out) + "\n")
+    Path(f"crates/{crate}/src/tests/gcc_answers.rt").write_text("\n".join(out) + "\n")
 
 
 if __name__ == "__main__":

@@ -1,0 +1,4 @@
+pub mod Assignments
+pub mod Binary
+pub mod Operands
+pub mod Unary
